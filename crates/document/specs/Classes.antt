@@ -62,17 +62,17 @@ classOf b =
     (cond (eqb b 43) plus
     (cond (eqb b 64) atSign other))))))))))
 
-unfoldable pub isLetter : ℕ → Bool
+abbrev pub isLetter : ℕ → Bool
 isLetter b = eqb (classOf b) letter
 
-unfoldable pub isDigit : ℕ → Bool
+abbrev pub isDigit : ℕ → Bool
 isDigit b = eqb (classOf b) digit
 
-unfoldable pub isBlank : ℕ → Bool
+abbrev pub isBlank : ℕ → Bool
 isBlank b = eqb (classOf b) blank
 
 -- "ASCII letters, digits and underscore"
-unfoldable pub isNameByte : ℕ → Bool
+abbrev pub isNameByte : ℕ → Bool
 isNameByte b = eqb (classOf b) letter || eqb (classOf b) digit || eqb (classOf b) underscore
 
 abbrev pub cr : ℕ

@@ -1,0 +1,4 @@
+pub mod Split
+pub mod RowsLaws
+pub mod SplitLaws
+pub mod ValueLaws
