@@ -1,0 +1,2 @@
+pub mod TestsLaws
+pub mod ListsLaws
