@@ -1,2 +1,4 @@
 pub mod TestsLaws
 pub mod ListsLaws
+pub mod CombinationsLaws
+pub mod OrderLaws
