@@ -2,3 +2,5 @@ pub mod TestsLaws
 pub mod ListsLaws
 pub mod CombinationsLaws
 pub mod OrderLaws
+pub mod JoinSeenLaws
+pub mod HistoriesLaws
