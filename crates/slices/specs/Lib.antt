@@ -4,3 +4,5 @@ pub mod CombinationsLaws
 pub mod OrderLaws
 pub mod JoinSeenLaws
 pub mod HistoriesLaws
+pub mod SeenLaws
+pub mod OneEventLaws
