@@ -6,3 +6,5 @@ pub mod JoinSeenLaws
 pub mod HistoriesLaws
 pub mod SeenLaws
 pub mod OneEventLaws
+pub mod PropertyLaws
+pub mod HopefulLaws
