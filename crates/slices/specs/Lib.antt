@@ -8,3 +8,4 @@ pub mod SeenLaws
 pub mod OneEventLaws
 pub mod PropertyLaws
 pub mod HopefulLaws
+pub mod TablesLaws
