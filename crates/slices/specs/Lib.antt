@@ -9,3 +9,4 @@ pub mod OneEventLaws
 pub mod PropertyLaws
 pub mod HopefulLaws
 pub mod TablesLaws
+pub mod SessionLaws

@@ -39,7 +39,7 @@ numbersAt-append : (w : ℕ) (r t : List ℕ) → length r ≡ w → numbersAt w
 numbersAt-append w r t o = rw (← o) (numbersAt-whole r t)
 
 -- the row of a kept combination at a place
-abbrev keptAt : ℕ → List ℕ → ℕ → Kept
+abbrev pub keptAt : ℕ → List ℕ → ℕ → Kept
 keptAt w t at = record { combination = numbersAt w t at; state = getD t (at + w) 0 }
 
 keptAt-drop : (w : ℕ) (t : List ℕ) (k at : ℕ) → keptAt w t (k + at) ≡ keptAt w (drop k t) at
@@ -65,7 +65,7 @@ rows-back w (r ∷ rows) t o =
 abbrev pub KeptWidth : ℕ → List Kept → Type 0
 KeptWidth w rows = (k : Kept) → In k rows → length (k .combination) ≡ w
 
-length-keptNumbers : (w : ℕ) (k : Kept) → length (k .combination) ≡ w → length (keptNumbers k) ≡ w + 1
+pub length-keptNumbers : (w : ℕ) (k : Kept) → length (k .combination) ≡ w → length (keptNumbers k) ≡ w + 1
 unfolding keptNumbers
 length-keptNumbers w k o = simp length-append (omega arith)
 
@@ -91,7 +91,7 @@ kept-back w (r ∷ rows) t o =
         rw q (keptAt-drop w (keptNumbers r ++ rest) (w + 1) (k * (w + 1)) ∙ ap (λ (l : List ℕ). keptAt w l (k * (w + 1))) d))
       ∙ kept-back w rows t (λ x i. o x (inr i))))
 
-length-joinedUp : (w : ℕ) (rows : List (List ℕ)) → OfWidth w rows → length (joinedUp rows) ≡ length rows * w
+pub length-joinedUp : (w : ℕ) (rows : List (List ℕ)) → OfWidth w rows → length (joinedUp rows) ≡ length rows * w
 unfolding joinedUp
 length-joinedUp w [] o = rw zero-mul
 length-joinedUp w (r ∷ rows) o =
@@ -100,7 +100,7 @@ length-joinedUp w (r ∷ rows) o =
     rw (length-append r (joinedUp rows)) (omega arith)
 
 -- n zeros
-abbrev zeros : ℕ → List ℕ
+abbrev pub zeros : ℕ → List ℕ
 zeros n = replicate n 0
 
 length-zeros : (n : ℕ) → length (zeros n) ≡ n
@@ -112,6 +112,11 @@ all-zero zero = tt
 all-zero (suc n) = of-and (eqb 0 0) (every (λ x. eqb x 0) (zeros n)) (eqb-refl 0) (all-zero n)
 
 -- A room ---------------------------------------------------------------------------------------------------------------
+
+-- a filled room begins with its numbers
+pub filled-front : (size : ℕ) (numbers old : List ℕ) → filled size numbers old ≡ numbers ++ (zeros (size - length numbers) ++ drop size old)
+unfolding filled
+filled-front size numbers old = append-assoc numbers (zeros (size - length numbers)) (drop size old)
 
 module _ (size : ℕ) (numbers old : List ℕ) (fits : length numbers ≤ size) (room : size ≤ length old) where
   front : length (numbers ++ zeros (size - length numbers)) ≡ size
