@@ -10,3 +10,5 @@ pub mod PropertyLaws
 pub mod HopefulLaws
 pub mod TablesLaws
 pub mod SessionLaws
+pub mod HoldsLaws
+pub mod SoundLaws
