@@ -12,3 +12,6 @@ pub mod TablesLaws
 pub mod SessionLaws
 pub mod HoldsLaws
 pub mod SoundLaws
+pub mod LookupLaws
+pub mod EventLaws
+pub mod Demand3
