@@ -4,11 +4,11 @@
 use Prim.Native.Nat.{ℕ, zero, suc}
 use mathlib.Core.Path.{_≡_, refl, sym, ap, ap₂, subst, _∙_}
 use mathlib.Core.Logic.{_⊎_, inl, inr}
-use mathlib.Core.Bool.{Bool, true, false, cond, _&&_, _||_}
+use mathlib.Core.Bool.{cond, _||_}
 use mathlib.Core.List.{List, [], _∷_}
 use native.Mathlib.Omega.{arith}
 use lib.Dec.{T, eqb, eqb→eq}
-use lib.ListN.{length, replicate, length-replicate}
+use lib.ListN.{length, length-replicate}
 use Rattle.document.specs.Combinations.{emptyOf, includes, compatible, join, zeroPast}
 use Rattle.slices.specs.TestsLaws.{so, not-so, either, and-of, of-and, or-of, of-or, of-eqb}
 
@@ -76,8 +76,7 @@ of-includes x y c b h t =
 compatible-of : (x y : ℕ) (c b : List ℕ) → T (compatible (x ∷ c) (y ∷ b)) → Compatible x y × T (compatible c b)
 unfolding compatible
 compatible-of x y c b t =
-    let h = and-of (eqb x 0 || eqb y 0 || eqb x y) (compatible c b) t in
-    (
+    let h = and-of (eqb x 0 || eqb y 0 || eqb x y) (compatible c b) t in (
       elim (or-of (eqb x 0 || eqb y 0) (eqb x y) (h .0)) [
         | inl k ↦ elim (or-of (eqb x 0) (eqb y 0) k) [ inl p ↦ inl (eqb→eq x 0 p) | inr p ↦ inr (inl (eqb→eq y 0 p)) ]
         | inr p ↦ inr (inr (eqb→eq x y p))

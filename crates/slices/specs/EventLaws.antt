@@ -1,31 +1,26 @@
 -- An accepted event over tables that stand for a history: the answer is the one that the history with that event calls for.
 -- Assumes nothing.
-use Prim.Native.Nat.{ℕ, _+_, _<_, _≤_}
-use mathlib.Core.Path.{_≡_, refl, sym, ap, _∙_}
-use mathlib.Core.Logic.{_⊎_, inl, inr, _↔_}
-use mathlib.Core.Bool.{Bool, true, false, not}
-use mathlib.Core.List.{List, [], _∷_, _++_}
-use mathlib.Core.List as list
-use native.Mathlib.Omega.{arith}
+use Prim.Native.Nat.{ℕ}
+use mathlib.Core.Path.{_≡_, ap, _∙_}
+use mathlib.Core.Logic.{_⊎_, inl, inr}
+use mathlib.Core.Bool.{true}
+use mathlib.Core.List.{List}
 use native.Mathlib.Nat.{zero-add}
 use borrow.Author.Tests.{lt-leb}
-use lib.Dec.{T, leb, ltb}
-use lib.ListN.{length, take, drop}
-use Rattle.document.specs.Lists.{In, joinedUp}
+use lib.Dec.{T}
+use lib.ListN.{length}
 use Rattle.document.specs.Limits.{width}
-use Rattle.document.specs.Refusals.{Refusal, noRoomForSeen, noRoomForKept, noRoomForReports, Answer, taken, refused, refuseIf}
-use Rattle.document.specs.Combinations.{includes, compatible, bindsExactly}
+use Rattle.document.specs.Combinations.{compatible}
 use Rattle.document.specs.Histories.{Event}
 use Rattle.document.specs.OneEvent.{Kept, joinSeen, see, movedFrom, keptAfter, reportsAfter}
-use Rattle.document.specs.Property.{Property, inRange, nextState, setOf, stateAfter, isAsked, hopeful}
-use Rattle.document.specs.Tables.{seenRoom, keptRoom, reportRoom}
-use Rattle.document.specs.Session.{Session, Happened, seenOf, keptOf, sessionWith, sound, reportNumbers, keeps, reported, stepFrom, event}
+use Rattle.document.specs.Property.{Property, inRange, nextState, stateAfter}
+use Rattle.document.specs.Session.{Session, seenOf, keptOf, keeps, reported, stepFrom, event}
 use Rattle.document.specs.Demands.{Lists, itself, SeenIn, KeptIn, ReportedIn, Proper, Holds, extended, Answers}
-use Rattle.slices.specs.ListsLaws.{in-more, in-more-old, in-more-new}
-use Rattle.slices.specs.OrderLaws.{Ascends, of-ascending, combinations}
+use Rattle.slices.specs.ListsLaws.{in-more}
+use Rattle.slices.specs.OrderLaws.{of-ascending, combinations}
 use Rattle.slices.specs.JoinSeenLaws.{OfWidth}
 use Rattle.slices.specs.HistoriesLaws.{bindings, joinOf}
-use Rattle.slices.specs.SeenLaws.{Sees, sees-joinOf, see-sees, see-ascends}
+use Rattle.slices.specs.SeenLaws.{sees-joinOf, see-sees, see-ascends}
 use Rattle.slices.specs.OneEventLaws.{Follows, in-reportsAfter, in-keptAfter, reportsAfter-ascends, keptAfter-ascends}
 use Rattle.slices.specs.PropertyLaws.{stateAfter-more}
 use Rattle.slices.specs.HopefulLaws.{hopeful-before}
@@ -75,11 +70,10 @@ module _ (p : Property) (H : List Event) (s : Session) (r : inRange p ≡ true) 
   kept-after = record {
     order = of-ascending (combinations keptRows) (keptAfter-ascends width (nextState p) (stateAfter p) (stateAfter-more p) H this (st .widths) more-width (q .width) (h .seen) joins (keeps p) (reported p) (h .kept) (st .follows) back (st .keptOrder));
     exactly = λ k.
-      let m = in-keptAfter width (nextState p) (stateAfter p) (stateAfter-more p) H this (st .widths) more-width (q .width) (h .seen) joins (keeps p) (reported p) (h .kept) (st .follows) back k in
-      (
-        (λ i. kept-follows p r more more-proper k .1 (m .0 i)),
-        (λ f. m .1 (kept-follows p r more more-proper k .0 f)),
-      );
+        let m = in-keptAfter width (nextState p) (stateAfter p) (stateAfter-more p) H this (st .widths) more-width (q .width) (h .seen) joins (keeps p) (reported p) (h .kept) (st .follows) back k in (
+          (λ i. kept-follows p r more more-proper k .1 (m .0 i)),
+          (λ f. m .1 (kept-follows p r more more-proper k .0 f)),
+        );
   }
 
   reports-after : Lists (λ k. k .combination) (ReportedIn p more b) reportRows
@@ -87,11 +81,10 @@ module _ (p : Property) (H : List Event) (s : Session) (r : inRange p ≡ true) 
   reports-after = record {
     order = of-ascending (combinations reportRows) (reportsAfter-ascends width (nextState p) (stateAfter p) (stateAfter-more p) H this (st .widths) more-width (q .width) (h .seen) joins (keeps p) (reported p) (h .kept) (st .follows) back (st .keptOrder));
     exactly = λ k.
-      let m = in-reportsAfter width (nextState p) (stateAfter p) (stateAfter-more p) H this (st .widths) more-width (q .width) (h .seen) joins (keeps p) (reported p) (h .kept) (st .follows) back k in
-      (
-        (λ i. let f = m .0 i in record { made = f .0 .made; concerned = f .1; state = f .0 .state; asked = f .2 }),
-        (λ f. m .1 (record { made = f .made; state = f .state }, f .concerned, f .asked)),
-      );
+        let m = in-reportsAfter width (nextState p) (stateAfter p) (stateAfter-more p) H this (st .widths) more-width (q .width) (h .seen) joins (keeps p) (reported p) (h .kept) (st .follows) back k in (
+          (λ i. let f = m .0 i in record { made = f .0 .made; concerned = f .1; state = f .0 .state; asked = f .2 }),
+          (λ f. m .1 (record { made = f .made; state = f .state }, f .concerned, f .asked)),
+        );
   }
 
   pub event-answers : (reports : List ℕ) → Answers p more s reports e b (event p s reports e b)

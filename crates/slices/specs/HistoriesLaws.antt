@@ -2,21 +2,21 @@
 -- made exactly if that join is c. Any width w.
 -- Assumes nothing.
 use Prim.Native.Nat.{ℕ}
-use mathlib.Core.Path.{_≡_, refl, sym, ap, _∙_}
-use mathlib.Core.Logic.{_⊎_, inl, inr, _↔_}
-use mathlib.Core.Bool.{Bool, true, false, cond}
+use mathlib.Core.Path.{_≡_, refl, sym, _∙_}
+use mathlib.Core.Logic.{inl, inr, _↔_}
+use mathlib.Core.Bool.{true, false}
 use mathlib.Core.List.{List, [], _∷_, _++_}
 use mathlib.Core.List as list
 use lib.Dec.{T}
 use lib.ListN.{length}
-use Rattle.document.specs.Lists.{In, consIf, keepIf}
-use Rattle.document.specs.Combinations.{emptyOf, includes, compatible, join}
+use Rattle.document.specs.Lists.{In, keepIf}
+use Rattle.document.specs.Combinations.{includes, compatible, join}
 use Rattle.document.specs.Histories.{Event, slice, AllCompatible, PairwiseCompatible, joinAll, IsBinding, Made}
 use Rattle.document.specs.OneEvent.{joinSeen}
-use Rattle.slices.specs.TestsLaws.{so, not-so, either, same-test}
-use Rattle.slices.specs.ListsLaws.{Image, in-map, map-in, map-append, in-keepIf}
+use Rattle.slices.specs.TestsLaws.{either, same-test}
+use Rattle.slices.specs.ListsLaws.{in-map, map-in, map-append, in-keepIf}
 use Rattle.slices.specs.CombinationsLaws.{includes-trans, includes-antisym, includes-empty, join-includes-left, join-includes-right, includes-join, included-compatible, compatible-empty, compatible-join, length-empty, length-join}
-use Rattle.slices.specs.JoinSeenLaws.{OfWidth, joinSeen-in, joinSeen-out, length-joinSeen, includes-joinSeen, joinSeen-includes, joinSeen-more-in, joinSeen-more-out}
+use Rattle.slices.specs.JoinSeenLaws.{OfWidth, length-joinSeen, includes-joinSeen, joinSeen-includes, joinSeen-more-in, joinSeen-more-out}
 
 -- the bindings of the accepted events
 abbrev pub bindings : List Event → List (List ℕ)
@@ -65,9 +65,9 @@ module _ (w : ℕ) where
   pub slice-joinOf : (c : List ℕ) (H : List Event) → length c ≡ w → slice c H ≡ slice (joinOf c H) H
   slice-joinOf c H o =
       slice-same c (joinOf c H) H (λ h i.
-        same-test (includes c (h .binding)) (includes (joinOf c H) (h .binding))
-        (joinSeen-includes w c (bindings H) o (h .binding) (map-in (λ (x : Event). x .binding) H h i))
-        (includes-trans c (joinOf c H) (h .binding) (includes-joinSeen w c (bindings H) o)))
+      same-test (includes c (h .binding)) (includes (joinOf c H) (h .binding))
+      (joinSeen-includes w c (bindings H) o (h .binding) (map-in (λ (x : Event). x .binding) H h i))
+      (includes-trans c (joinOf c H) (h .binding) (includes-joinSeen w c (bindings H) o)))
 
   -- the join is that of the bindings that c includes, which are pairwise compatible
   joinSeen-joinAll : (c : List ℕ) (l : List (List ℕ)) → joinSeen w c l ≡ joinAll w (keepIf (includes c) l)
@@ -126,10 +126,10 @@ module _ (w : ℕ) where
     made-joinOf c m =
         let oc : length c ≡ w = length-made c m in
         let up : (b : List ℕ) → In b (m .bindings) → T (includes c b) =
-            λ b i. rw (m .is) (joinAll-includes (m .bindings) (from-width c m) (m .compatible) b i) in
+        λ b i. rw (m .is) (joinAll-includes (m .bindings) (from-width c m) (m .compatible) b i) in
         let t : T (includes (joinOf c H) (joinAll w (m .bindings))) =
-            includes-joinAll (joinOf c H) (m .bindings) (length-joinSeen w c (bindings H) o)
-            (λ b i. joinSeen-includes w c (bindings H) oc b (is-binding H b .1 (m .from b i)) (up b i)) in
+        includes-joinAll (joinOf c H) (m .bindings) (length-joinSeen w c (bindings H) o)
+        (λ b i. joinSeen-includes w c (bindings H) oc b (is-binding H b .1 (m .from b i)) (up b i)) in
         includes-antisym (joinOf c H) c (rw (← m .is) at t) (includes-joinSeen w c (bindings H) oc)
 
   -- One event more -----------------------------------------------------------------------------------------------------

@@ -1,34 +1,32 @@
 -- What tables that stand for a history hold, in the words of the laws: widths, states in range, rows that follow their
 -- combination and are hopeful, numbers past the parameters 0.
 -- Assumes nothing.
-use Prim.Native.Nat.{ℕ, zero, suc, _+_, _^_, _/_, _%_, _<_, _≤_}
-use mathlib.Core.Path.{_≡_, refl, sym, ap, _∙_}
-use mathlib.Core.Logic.{_⊎_, inl, inr, _↔_}
-use mathlib.Core.Bool.{Bool, true, false, cond, not, _&&_}
-use mathlib.Core.List.{List, [], _∷_, _++_}
+use Prim.Native.Nat.{ℕ, zero, suc, _+_, _^_, _<_, _≤_}
+use mathlib.Core.Path.{_≡_, refl}
+use mathlib.Core.Logic.{inl, inr, _↔_}
+use mathlib.Core.Bool.{true, false, cond, not}
+use mathlib.Core.List.{List, [], _∷_}
 use mathlib.Core.List as list
 use native.Mathlib.Omega.{arith}
 use native.Mathlib.Nat.{div-eq-of-lt, pow-le-pow-right}
 use lib.Dec.{T, eqb}
-use lib.ListN.{length}
 use Rattle.document.specs.Lists.{In}
 use Rattle.document.specs.Limits.{width}
 use Rattle.document.specs.Positions.{holds}
-use Rattle.document.specs.Combinations.{emptyOf, bindsFrom, bindsExactly, zeroPast}
+use Rattle.document.specs.Combinations.{bindsFrom, bindsExactly, zeroPast}
 use Rattle.document.specs.Histories.{Event, slice, IsBinding, joinAll, Made}
 use Rattle.document.specs.OneEvent.{Kept}
-use Rattle.document.specs.Property.{Property, inRange, setOf, stateAfter, isAsked, hopeful, everyEvent, Leads}
-use Rattle.document.specs.Session.{Session, ascending, keeps}
+use Rattle.document.specs.Property.{Property, inRange, setOf, stateAfter, hopeful}
+use Rattle.document.specs.Session.{Session, keeps}
 use Rattle.document.specs.Demands.{Lists, itself, SeenIn, KeptIn, Proper, Holds}
 use Rattle.slices.specs.TestsLaws.{so, and-of, of-and}
-use Rattle.slices.specs.ListsLaws.{Image, in-map}
 use Rattle.slices.specs.CombinationsLaws.{zeroPast-empty, zeroPast-join}
 use Rattle.slices.specs.OrderLaws.{Ascends, ascending-of, of-ascending, combinations}
 use Rattle.slices.specs.JoinSeenLaws.{OfWidth}
 use Rattle.slices.specs.HistoriesLaws.{bindings, is-binding, in-slice, length-made}
 use Rattle.slices.specs.SeenLaws.{Sees}
 use Rattle.slices.specs.OneEventLaws.{Follows}
-use Rattle.slices.specs.PropertyLaws.{Ranges, ranges, stateAfter-range}
+use Rattle.slices.specs.PropertyLaws.{ranges, stateAfter-range}
 use Rattle.slices.specs.HopefulLaws.{hopeful-right}
 use Rattle.slices.specs.SessionLaws.{Fits}
 
@@ -84,11 +82,11 @@ module _ (p : Property) (r : inRange p ≡ true) (H : List Event) (f : ProperHis
   unfolding keeps
   kept-follows k = (
     (λ m.
-      let s : k .state < p .states = rw (m .state) (slice-range (k .combination)) in
-      (record { made = m .made; state = m .state }, hopeful-right p r (k .state) s .1 (m .hopeful))),
+        let s : k .state < p .states = rw (m .state) (slice-range (k .combination)) in
+        (record { made = m .made; state = m .state }, hopeful-right p r (k .state) s .1 (m .hopeful))),
     (λ m.
-      let s : k .state < p .states = rw (m .0 .state) (slice-range (k .combination)) in
-      record { made = m .0 .made; state = m .0 .state; hopeful = hopeful-right p r (k .state) s .0 (m .1) }),
+        let s : k .state < p .states = rw (m .0 .state) (slice-range (k .combination)) in
+        record { made = m .0 .made; state = m .0 .state; hopeful = hopeful-right p r (k .state) s .0 (m .1) }),
   )
 
 -- The tables -----------------------------------------------------------------------------------------------------------

@@ -3,7 +3,7 @@
 -- last that does, and every other puts up a flag more, so after as many rounds as there are states nothing new is found.
 -- Assumes nothing.
 use Prim.Native.Nat.{ℕ, zero, suc, _+_, _<_, _≤_}
-use mathlib.Core.Path.{_≡_, refl, sym, ap, _∙_}
+use mathlib.Core.Path.{_≡_, refl, ap}
 use mathlib.Core.Logic.{_⊎_, inl, inr, _↔_}
 use mathlib.Core.Bool.{Bool, true, false, _&&_, _||_}
 use mathlib.Core.List.{List, [], _∷_}
@@ -11,7 +11,7 @@ use native.Mathlib.Omega.{arith}
 use native.Mathlib.Decide.{decLt}
 use lib.Dec.{T}
 use lib.ListN.{length, getD, replicate, List·getD-eq-default}
-use Rattle.document.specs.Lists.{In, someBelow, tabulate}
+use Rattle.document.specs.Lists.{In, tabulate}
 use Rattle.document.specs.Patterns.{Among}
 use Rattle.document.specs.Property.{Property, nextState, inRange, stateFrom, isAsked, Leads, leadsIn, leadsAfter, leads, everyEvent, hopeful}
 use Rattle.slices.specs.TestsLaws.{and-of, of-and, or-of, of-or, someBelow-of, of-someBelow}
@@ -103,13 +103,13 @@ module _ (p : Property) (marked allowed : ℕ → Bool) where
   round-within : (l m : List Bool) → Within l m → Within (round l) (round m)
   round-within l m w =
       within-tabulate (p .states) (leadsIn p marked allowed l) (leadsIn p marked allowed m) (λ s t.
-        let h = leadsIn-of l s t in
-        of-leadsIn m s (record {
-          event = h .event;
-          declared = h .declared;
-          permitted = h .permitted;
-          arrives = elim (h .arrives) [ inl a ↦ inl a | inr a ↦ inr (within-getD l m w (nextState p s (h .event)) a) ];
-        }))
+      let h = leadsIn-of l s t in
+      of-leadsIn m s (record {
+        event = h .event;
+        declared = h .declared;
+        permitted = h .permitted;
+        arrives = elim (h .arrives) [ inl a ↦ inl a | inr a ↦ inr (within-getD l m w (nextState p s (h .event)) a) ];
+      }))
 
   found-within : (n : ℕ) → Within (found n) (found (suc n))
   unfolding leadsAfter
@@ -186,7 +186,7 @@ module _ (p : Property) (marked allowed : ℕ → Bool) where
   unfolding leadsAfter
   step-found s h k =
       let t : T (getD (found (suc (p .states))) s false) =
-          rw (getD-tabulate (p .states) (leadsIn p marked allowed (found (p .states))) false s h) (of-leadsIn (found (p .states)) s k) in
+      rw (getD-tabulate (p .states) (leadsIn p marked allowed (found (p .states))) false s h) (of-leadsIn (found (p .states)) s k) in
       rw settled at t
 
   leads-found : Ranges p → (s e : ℕ) (rest : List ℕ) → s < p .states → Among (p .events) (e ∷ rest)

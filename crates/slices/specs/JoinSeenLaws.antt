@@ -2,9 +2,9 @@
 -- So it depends on which bindings stand in the list only, the empty one apart. Any width w.
 -- Assumes nothing.
 use Prim.Native.Nat.{ℕ}
-use mathlib.Core.Path.{_≡_, refl, sym, ap, _∙_}
+use mathlib.Core.Path.{_≡_, refl}
 use mathlib.Core.Logic.{_⊎_, inl, inr}
-use mathlib.Core.Bool.{Bool, true, false, cond}
+use mathlib.Core.Bool.{true, false}
 use mathlib.Core.List.{List, [], _∷_, _++_}
 use lib.Dec.{T}
 use lib.ListN.{length}
@@ -118,7 +118,7 @@ module _ (w : ℕ) where
       (includes-join (joinSeen w c m) b k (joinSeen-includes c m o b (in-more-new l b) (so e))
       (joinSeen-least c (joinSeen w c m) l (length-joinSeen c m om) (λ x i t. joinSeen-includes c m o x (in-more-old l b x i) t)))
       (joinSeen-least c (join b k) m (length-join w b k (om b (in-more-new l b)) (length-joinSeen c l ol)) (λ x i t.
-        elim (in-more l b x i) [
-          | inl j ↦ includes-trans (join b k) k x (join-includes-right b k both) (joinSeen-includes c l o x j t)
-          | inr q ↦ rw q (join-includes-left b k both)
-        ]))
+      elim (in-more l b x i) [
+        | inl j ↦ includes-trans (join b k) k x (join-includes-right b k both) (joinSeen-includes c l o x j t)
+        | inr q ↦ rw q (join-includes-left b k both)
+      ]))

@@ -2,9 +2,9 @@
 -- nothing stands twice.
 -- Assumes nothing.
 use Prim.Native.Nat.{ℕ, zero, suc, _<_}
-use mathlib.Core.Path.{_≡_, refl, sym, ap, _∙_}
+use mathlib.Core.Path.{_≡_, refl, ap, _∙_}
 use mathlib.Core.Logic.{_⊎_, inl, inr, _↔_}
-use mathlib.Core.Bool.{Bool, true, false}
+use mathlib.Core.Bool.{Bool}
 use mathlib.Core.List.{List, [], _∷_, _++_}
 use mathlib.Core.List as list
 use native.Mathlib.Omega.{arith}
@@ -112,8 +112,8 @@ keepIf-distinct f p (x ∷ l) d =
     elim (either (p x)) [
       | inl e ↦ rw e (
         (λ i.
-          let r = in-map f (keepIf p l) (f x) .0 i in
-          d .0 (in-map f l (f x) .1 (record { of = r .of; member = in-keepIf p l (r .of) .0 (r .member) .0; is = r .is }))),
+            let r = in-map f (keepIf p l) (f x) .0 i in
+            d .0 (in-map f l (f x) .1 (record { of = r .of; member = in-keepIf p l (r .of) .0 (r .member) .0; is = r .is }))),
         keepIf-distinct f p l (d .1),
       )
       | inr e ↦ rw e (keepIf-distinct f p l (d .1))
@@ -125,7 +125,7 @@ pub map-distinct : {A B C : Type 0} (f : A → B) (h : A → C) (l : List A) →
 map-distinct f h [] u d = tt
 map-distinct f h (x ∷ l) u d = (
   (λ i.
-    let r = in-map h l (h x) .0 i in
-    d .0 (in-map f l (f x) .1 (record { of = r .of; member = r .member; is = u x (r .of) (inl refl) (inr (r .member)) (r .is) }))),
+      let r = in-map h l (h x) .0 i in
+      d .0 (in-map f l (f x) .1 (record { of = r .of; member = r .member; is = u x (r .of) (inl refl) (inr (r .member)) (r .is) }))),
   map-distinct f h l (λ y z i j. u y z (inr i) (inr j)) (d .1),
 )

@@ -2,28 +2,27 @@
 -- Assumes nothing.
 use Prim.Native.Nat.{ℕ, _<_}
 use mathlib.Core.Path.{_≡_, refl, sym, ap, _∙_}
-use mathlib.Core.Logic.{_⊎_, inl, inr, _↔_}
-use mathlib.Core.Bool.{Bool, true, false, not}
+use mathlib.Core.Logic.{inl, inr}
+use mathlib.Core.Bool.{true, false}
 use mathlib.Core.List.{List, [], _∷_}
 use lib.Dec.{T}
 use lib.ListN.{length}
 use Rattle.document.specs.Lists.{In, equal}
 use Rattle.document.specs.Limits.{width}
-use Rattle.document.specs.Refusals.{Answer, taken, refused, refuseIf}
+use Rattle.document.specs.Refusals.{taken}
 use Rattle.document.specs.Combinations.{zeroPast}
 use Rattle.document.specs.Histories.{Event, slice}
-use Rattle.document.specs.OneEvent.{Kept, joinSeen}
-use Rattle.document.specs.Property.{Property, inRange, stateAfter, verdict, isAsked, hopeful, everyEvent, Leads}
-use Rattle.document.specs.Session.{Session, seenOf, keptOf, sound, keeps, Found, held, hopeless, findKept, lookup}
+use Rattle.document.specs.OneEvent.{Kept}
+use Rattle.document.specs.Property.{Property, inRange, stateAfter, verdict, hopeful}
+use Rattle.document.specs.Session.{Session, seenOf, keptOf, keeps, held, hopeless, findKept, lookup}
 use Rattle.document.specs.Demands.{Holds, LooksUp, isHeld, isHopeless}
 use Rattle.slices.specs.TestsLaws.{so, not-so, either, equal-of, of-equal}
 use Rattle.slices.specs.JoinSeenLaws.{joinSeen-again}
 use Rattle.slices.specs.HistoriesLaws.{bindings, slice-joinOf, joinOf, joinOf-made}
 use Rattle.slices.specs.SeenLaws.{sees-joinOf}
-use Rattle.slices.specs.OneEventLaws.{Follows}
 use Rattle.slices.specs.HopefulLaws.{hopeful-right}
 use Rattle.slices.specs.SessionLaws.{seenOf-with, keptOf-with}
-use Rattle.slices.specs.HoldsLaws.{slice-range, Standing, standing}
+use Rattle.slices.specs.HoldsLaws.{slice-range, standing}
 use Rattle.slices.specs.SoundLaws.{holds-sound}
 
 -- Finding a row --------------------------------------------------------------------------------------------------------
@@ -74,9 +73,9 @@ looks-up p H s r h c o z =
     let seen : seenOf s ≡ h .seen = ap seenOf (h .tables) ∙ seenOf-with s (h .seen) (h .kept) (st .fits) in
     let kept : keptOf s ≡ h .kept = ap keptOf (h .tables) ∙ keptOf-with s (h .seen) (h .kept) (st .fits) in
     let found : lookup p s c ≡ taken (findKept p k (h .kept)) =
-        rw (r, holds-sound p r H s h, z, seen, kept, sees-joinOf width H (h .seen) (st .widths) (st .sees) c o) in
+    rw (r, holds-sound p r H s h, z, seen, kept, sees-joinOf width H (h .seen) (st .widths) (st .sees) c o) in
     let states : (x : Kept) → In x (h .kept) → x .combination ≡ k → x .state ≡ now =
-        λ x i q. st .follows x .0 i .0 .state ∙ ap (λ (d : List ℕ). stateAfter p (slice d H)) q ∙ same in
+    λ x i q. st .follows x .0 i .0 .state ∙ ap (λ (d : List ℕ). stateAfter p (slice d H)) q ∙ same in
     elim (either (hopeful p now)) [
       | inl e ↦
           let row : Kept = record { combination = k; state = now } in
@@ -84,6 +83,6 @@ looks-up p H s r h c o z =
           rw (found ∙ ap taken (findKept-held p k now (h .kept) states row there refl)) (isHeld (hopeful-right p r now range .0 (so e)))
       | inr e ↦
           let none : (x : Kept) → In x (h .kept) → x .combination ≡ k → ⊥ =
-              λ x i q. not-so e (let t : T (hopeful p (x .state)) = unfold keeps in st .follows x .0 i .1 in rw (states x i q) at t) in
+          λ x i q. not-so e (let t : T (hopeful p (x .state)) = unfold keeps in st .follows x .0 i .1 in rw (states x i q) at t) in
           rw (found ∙ ap taken (findKept-hopeless p k (h .kept) none)) (isHopeless (λ l. not-so e (hopeful-right p r now range .1 l)))
     ]

@@ -4,20 +4,20 @@
 use Prim.Native.Nat.{ℕ}
 use mathlib.Core.Path.{_≡_, refl, sym, ap, _∙_}
 use mathlib.Core.Logic.{_⊎_, inl, inr, _↔_}
-use mathlib.Core.Bool.{Bool, true, false, not, cond, _&&_}
+use mathlib.Core.Bool.{Bool, true, false, not}
 use mathlib.Core.List.{List, [], _∷_, _++_}
 use mathlib.Core.List as list
 use lib.Dec.{T}
 use lib.ListN.{length}
-use Rattle.document.specs.Lists.{In, consIf, keepIf, equal}
+use Rattle.document.specs.Lists.{In, keepIf, equal}
 use Rattle.document.specs.Combinations.{includes, compatible, join}
 use Rattle.document.specs.Histories.{Event, slice, Made}
-use Rattle.document.specs.OneEvent.{Kept, joinSeen, inOrder, moves, movedFrom, moved, keptAfter, reportsAfter}
+use Rattle.document.specs.OneEvent.{Kept, joinSeen, moves, movedFrom, moved, keptAfter, reportsAfter}
 use Rattle.slices.specs.TestsLaws.{so, not-so, true-of, either, not-of, of-not, and-of, of-and, equal-of, of-equal}
-use Rattle.slices.specs.ListsLaws.{in-append, in-keepIf, Image, in-map, map-in, map-append, in-more-new, Distinct, append-distinct, keepIf-distinct, map-distinct}
+use Rattle.slices.specs.ListsLaws.{in-append, in-keepIf, in-map, map-append, Distinct, append-distinct, keepIf-distinct, map-distinct}
 use Rattle.slices.specs.CombinationsLaws.{join-includes-left, included-compatible, length-join}
 use Rattle.slices.specs.OrderLaws.{Ascends, ascends-distinct, combinations, in-inOrder, inOrder-ascends}
-use Rattle.slices.specs.JoinSeenLaws.{OfWidth, length-joinSeen, includes-joinSeen, joinSeen-again}
+use Rattle.slices.specs.JoinSeenLaws.{OfWidth, includes-joinSeen, joinSeen-again}
 use Rattle.slices.specs.HistoriesLaws.{bindings, slice-append, joinOf, slice-joinOf, joinOf-made, length-made, made-joinOf, joinOf-more-in, joinOf-more-out}
 
 -- a made combination with the state of its slice
@@ -79,8 +79,7 @@ module _ (w : ℕ) (step : ℕ → ℕ → ℕ) (stateOf : List ℕ → ℕ) (st
         let oc : length c ≡ w = length-join w b (k .combination) ob (length-made w H o (k .combination) (f .made)) in
         let back : joinOf w c H ≡ k .combination = sym (joins c oc) ∙ m .1 in
         let i : T (includes c b) = join-includes-left b (k .combination) (m .0) in
-        let e : includes c b ≡ true = true-of (includes c b) i in
-        (
+        let e : includes c b ≡ true = true-of (includes c b) i in (
           record {
             made = joinOf-made w c (H ++ (h ∷ [])) (joinOf-more-in w c H h oc oh e ∙ ap (join b) back);
             state = rw (state-in c H h e, slice-joinOf w c H oc, back, f .state);
@@ -108,7 +107,7 @@ module _ (w : ℕ) (step : ℕ → ℕ → ℕ) (stateOf : List ℕ → ℕ) (st
         let up : T (compatible b k) = included-compatible c b k t (includes-joinSeen w c (bindings H) oc) in
         let ce : join b k ≡ c = sym (joinOf-more-in w c H h oc oh e) ∙ made-joinOf w (H ++ (h ∷ [])) oh c (f .made) in
         let se : r .state ≡ step (stateOf (slice k H)) (h .event) =
-            f .state ∙ state-in c H h e ∙ ap (λ (l : List ℕ). step (stateOf l) (h .event)) (slice-joinOf w c H oc) in
+        f .state ∙ state-in c H h e ∙ ap (λ (l : List ℕ). step (stateOf l) (h .event)) (slice-joinOf w c H oc) in
         record {
           row = k′;
           follows = record { made = joinOf-made w k H (joinSeen-again w c (bindings H) oc o); state = refl };
@@ -119,22 +118,22 @@ module _ (w : ℕ) (step : ℕ → ℕ → ℕ) (stateOf : List ℕ → ℕ) (st
 
     module _ (keeps reported : Kept → Bool) (kept : List Kept) (exactly : (k : Kept) → In k kept ↔ (Follows w stateOf H k × T (keeps k)))
         (back : (k : Kept) → Follows w stateOf H k → T (compatible (h .binding) (k .combination))
-          → T (keeps (movedFrom w step (h .event) (h .binding) seen k)) ⊎ T (reported (movedFrom w step (h .event) (h .binding) seen k)) → T (keeps k)) where
+        → T (keeps (movedFrom w step (h .event) (h .binding) seen k)) ⊎ T (reported (movedFrom w step (h .event) (h .binding) seen k)) → T (keeps k)) where
       in-moved : (r : Kept) → T (keeps r) ⊎ T (reported r) → In r (movedRows kept) ↔ (Follows w stateOf (H ++ (h ∷ [])) r × T (includes (r .combination) (h .binding)))
       unfolding moved
       in-moved r v = (
         (λ i.
-          let m = in-map to (keepIf may kept) r .0 i in
-          let f = in-keepIf may kept (m .of) .0 (m .member) in
-          rw (m .is) (to-follows (m .of) (exactly (m .of) .0 (f .0) .0) (f .1))),
+            let m = in-map to (keepIf may kept) r .0 i in
+            let f = in-keepIf may kept (m .of) .0 (m .member) in
+            rw (m .is) (to-follows (m .of) (exactly (m .of) .0 (f .0) .0) (f .1))),
         (λ f.
-          let m = comes-from r (f .0) (f .1) in
-          let t : T (keeps (m .row)) = back (m .row) (m .follows) (m .compatible) (rw (m .is) at v) in
-          in-map to (keepIf may kept) r .1 (record {
-            of = m .row;
-            member = in-keepIf may kept (m .row) .1 (exactly (m .row) .1 (m .follows, t), m .moves);
-            is = m .is;
-          })),
+            let m = comes-from r (f .0) (f .1) in
+            let t : T (keeps (m .row)) = back (m .row) (m .follows) (m .compatible) (rw (m .is) at v) in
+            in-map to (keepIf may kept) r .1 (record {
+              of = m .row;
+              member = in-keepIf may kept (m .row) .1 (exactly (m .row) .1 (m .follows, t), m .moves);
+              is = m .is;
+            })),
       )
 
       -- "each accepted event reports exactly .."
@@ -143,11 +142,11 @@ module _ (w : ℕ) (step : ℕ → ℕ → ℕ) (stateOf : List ℕ → ℕ) (st
       unfolding reportsAfter
       in-reportsAfter r = (
         (λ i.
-          let f = in-keepIf reported (movedRows kept) r .0 (in-inOrder (keepIf reported (movedRows kept)) r .0 i) in
-          let m = in-moved r (inr (f .1)) .0 (f .0) in
-          (m .0, m .1, f .1)),
+            let f = in-keepIf reported (movedRows kept) r .0 (in-inOrder (keepIf reported (movedRows kept)) r .0 i) in
+            let m = in-moved r (inr (f .1)) .0 (f .0) in
+            (m .0, m .1, f .1)),
         (λ f. in-inOrder (keepIf reported (movedRows kept)) r .1 (in-keepIf reported (movedRows kept) r .1
-          (in-moved r (inr (f .2)) .1 (f .0, f .1), f .2))),
+            (in-moved r (inr (f .2)) .1 (f .0, f .1), f .2))),
       )
 
       abbrev stays : Kept → Bool
@@ -159,15 +158,13 @@ module _ (w : ℕ) (step : ℕ → ℕ → ℕ) (stateOf : List ℕ → ℕ) (st
       unfolding keptAfter
       in-keptAfter r =
           let new = keepIf keeps (movedRows kept) in
-          let same = keepIf stays kept in
-          (
+          let same = keepIf stays kept in (
             (λ i. elim (in-append r new same .0 (in-inOrder (new ++ same) r .0 i)) [
               | inl j ↦ let f = in-keepIf keeps (movedRows kept) r .0 j in (in-moved r (inl (f .1)) .0 (f .0) .0, f .1)
               | inr j ↦
                   let f = in-keepIf stays kept r .0 j in
                   let v = exactly r .0 (f .0) in
-                  let e : includes (r .combination) (h .binding) ≡ false = not-of (includes (r .combination) (h .binding)) (f .1) in
-                  (
+                  let e : includes (r .combination) (h .binding) ≡ false = not-of (includes (r .combination) (h .binding)) (f .1) in (
                     record {
                       made = joinOf-made w (r .combination) (H ++ (h ∷ [])) (joinOf-more-out w (r .combination) H h e ∙ made-joinOf w H o (r .combination) (v .0 .made));
                       state = v .0 .state ∙ sym (state-out (r .combination) H h e);
@@ -178,15 +175,15 @@ module _ (w : ℕ) (step : ℕ → ℕ → ℕ) (stateOf : List ℕ → ℕ) (st
             (λ f. in-inOrder (new ++ same) r .1 (in-append r new same .1 (elim (either (includes (r .combination) (h .binding))) [
               | inl e ↦ inl (in-keepIf keeps (movedRows kept) r .1 (in-moved r (inl (f .1)) .1 (f .0, so e), f .1))
               | inr e ↦ inr (in-keepIf stays kept r .1 (
-                  exactly r .1 (
-                    record {
-                      made = joinOf-made w (r .combination) H (sym (joinOf-more-out w (r .combination) H h e) ∙ made-joinOf w (H ++ (h ∷ [])) oh (r .combination) (f .0 .made));
-                      state = f .0 .state ∙ state-out (r .combination) H h e;
-                    },
-                    f .1,
-                  ),
-                  of-not (includes (r .combination) (h .binding)) (not-so e),
-                ))
+                exactly r .1 (
+                  record {
+                    made = joinOf-made w (r .combination) H (sym (joinOf-more-out w (r .combination) H h e) ∙ made-joinOf w (H ++ (h ∷ [])) oh (r .combination) (f .0 .made));
+                    state = f .0 .state ∙ state-out (r .combination) H h e;
+                  },
+                  f .1,
+                ),
+                of-not (includes (r .combination) (h .binding)) (not-so e),
+              ))
             ]))),
           )
 
@@ -197,12 +194,12 @@ module _ (w : ℕ) (step : ℕ → ℕ → ℕ) (stateOf : List ℕ → ℕ) (st
         unfolding moved
         moved-distinct =
             rw (moved-combinations w step (h .event) (h .binding) seen (keepIf may kept)) (
-              map-distinct (λ (k : Kept). k .combination) (λ (k : Kept). join (h .binding) (k .combination)) (keepIf may kept)
-              (λ x y i j q.
-                let p = moves-of x (in-keepIf may kept x .0 i .1) in
-                let r = moves-of y (in-keepIf may kept y .0 j .1) in
-                sym (p .1) ∙ ap (λ (c : List ℕ). joinSeen w c seen) q ∙ r .1)
-              (keepIf-distinct (λ (k : Kept). k .combination) may kept (ascends-distinct (combinations kept) order)))
+            map-distinct (λ (k : Kept). k .combination) (λ (k : Kept). join (h .binding) (k .combination)) (keepIf may kept)
+            (λ x y i j q.
+            let p = moves-of x (in-keepIf may kept x .0 i .1) in
+            let r = moves-of y (in-keepIf may kept y .0 j .1) in
+            sym (p .1) ∙ ap (λ (c : List ℕ). joinSeen w c seen) q ∙ r .1)
+            (keepIf-distinct (λ (k : Kept). k .combination) may kept (ascends-distinct (combinations kept) order)))
 
         pub reportsAfter-ascends : Ascends (combinations (reportsAfter w step (h .event) (h .binding) seen reported kept))
         unfolding reportsAfter
@@ -216,11 +213,11 @@ module _ (w : ℕ) (step : ℕ → ℕ → ℕ) (stateOf : List ℕ → ℕ) (st
             let new = keepIf keeps (movedRows kept) in
             let same = keepIf stays kept in
             inOrder-ascends (new ++ same) (rw (map-append comb new same) (
-              append-distinct (combinations new) (combinations same) (keepIf-distinct comb keeps (movedRows kept) moved-distinct)
-              (keepIf-distinct comb stays kept (ascends-distinct (combinations kept) order))
-              (λ x i j.
-                let m = in-map comb new x .0 i in
-                let n = in-map comb same x .0 j in
-                let f = in-keepIf keeps (movedRows kept) (m .of) .0 (m .member) in
-                let t : T (includes (m .of .combination) (h .binding)) = in-moved (m .of) (inl (f .1)) .0 (f .0) .1 in
-                not-so (not-of (includes (n .of .combination) (h .binding)) (in-keepIf stays kept (n .of) .0 (n .member) .1)) (rw (sym (m .is) ∙ n .is) at t))))
+            append-distinct (combinations new) (combinations same) (keepIf-distinct comb keeps (movedRows kept) moved-distinct)
+            (keepIf-distinct comb stays kept (ascends-distinct (combinations kept) order))
+            (λ x i j.
+            let m = in-map comb new x .0 i in
+            let n = in-map comb same x .0 j in
+            let f = in-keepIf keeps (movedRows kept) (m .of) .0 (m .member) in
+            let t : T (includes (m .of .combination) (h .binding)) = in-moved (m .of) (inl (f .1)) .0 (f .0) .1 in
+            not-so (not-of (includes (n .of .combination) (h .binding)) (in-keepIf stays kept (n .of) .0 (n .member) .1)) (rw (sym (m .is) ∙ n .is) at t))))

@@ -1,11 +1,11 @@
 -- The order of combinations: `precedes` is a strict order of all of them; an ascending list is determined by its members;
 -- and rows put in order are the same rows, ascending if no combination stands twice.
 -- Assumes nothing.
-use Prim.Native.Nat.{ℕ, zero, suc, _<_}
-use mathlib.Core.Path.{_≡_, refl, sym, ap, ap₂, _∙_}
+use Prim.Native.Nat.{ℕ, _<_}
+use mathlib.Core.Path.{_≡_, refl, sym, ap₂, _∙_}
 use mathlib.Core.Logic.{_⊎_, inl, inr, _↔_}
-use mathlib.Core.Bool.{Bool, true, false, _&&_, _||_}
-use mathlib.Core.List.{List, [], _∷_, _++_}
+use mathlib.Core.Bool.{true, false, _&&_}
+use mathlib.Core.List.{List, [], _∷_}
 use mathlib.Core.List as list
 use native.Mathlib.Omega.{arith}
 use native.Mathlib.Decide.{decLt}
@@ -15,7 +15,7 @@ use Rattle.document.specs.Combinations.{precedes}
 use Rattle.document.specs.OneEvent.{Kept, insertKept, inOrder, insertSeen}
 use Rattle.document.specs.Session.{ascending}
 use Rattle.slices.specs.TestsLaws.{so, not-so, true-of, either, and-of, of-and, or-of, of-or, of-eqb}
-use Rattle.slices.specs.ListsLaws.{Image, in-map, map-in, Distinct}
+use Rattle.slices.specs.ListsLaws.{in-map, Distinct}
 
 -- The order ------------------------------------------------------------------------------------------------------------
 
@@ -47,13 +47,13 @@ precedes-trans (x ∷ a) [] c s t = absurd s
 precedes-trans (x ∷ a) (y ∷ b) [] s t = absurd t
 precedes-trans (x ∷ a) (y ∷ b) (z ∷ c) s t =
     of-precedes x z a c (
-      elim (precedes-of x y a b s) [
-        | inl p ↦ elim (precedes-of y z b c t) [ inl q ↦ inl (omega arith) | inr q ↦ inl (omega arith) ]
-        | inr p ↦ elim (precedes-of y z b c t) [
-          | inl q ↦ inl (omega arith)
-          | inr q ↦ inr (p .0 ∙ q .0, precedes-trans a b c (p .1) (q .1))
-        ]
-      ])
+    elim (precedes-of x y a b s) [
+      | inl p ↦ elim (precedes-of y z b c t) [ inl q ↦ inl (omega arith) | inr q ↦ inl (omega arith) ]
+      | inr p ↦ elim (precedes-of y z b c t) [
+        | inl q ↦ inl (omega arith)
+        | inr q ↦ inr (p .0 ∙ q .0, precedes-trans a b c (p .1) (q .1))
+      ]
+    ])
 
 less-same-more : (x y : ℕ) → (x < y) ⊎ ((x ≡ y) ⊎ (y < x))
 less-same-more x y =
@@ -165,11 +165,11 @@ insertSeen-ascends b (x ∷ l) a f =
         insertSeen-ascends b l (a .1) (λ i. f (inr i)),
       )
       | inr e ↦ rw (insertSeen-here b x l e) (
-        let first : T (precedes b x) = elim (precedes-or x b) [
-          | inl t ↦ absurd (not-so e t)
-          | inr h ↦ elim h [ inl q ↦ absurd (f (inl (sym q))) | inr t ↦ t ]
-        ] in
-        ((λ y i. elim i [ inl q ↦ rw q first | inr k ↦ precedes-trans b x y first (a .0 y k) ]), a))
+          let first : T (precedes b x) = elim (precedes-or x b) [
+            | inl t ↦ absurd (not-so e t)
+            | inr h ↦ elim h [ inl q ↦ absurd (f (inl (sym q))) | inr t ↦ t ]
+          ] in
+          ((λ y i. elim i [ inl q ↦ rw q first | inr k ↦ precedes-trans b x y first (a .0 y k) ]), a))
     ]
 
 abbrev pub combinations : List Kept → List (List ℕ)
@@ -213,7 +213,7 @@ unfolding inOrder
 inOrder-ascends [] d = tt
 inOrder-ascends (r ∷ l) d =
     rw (insertKept-combinations r (inOrder l)) (
-      insertSeen-ascends (r .combination) (combinations (inOrder l)) (inOrder-ascends l (d .1)) (λ i.
-        let m = in-map (λ (k : Kept). k .combination) (inOrder l) (r .combination) .0 i in
-        d .0 (in-map (λ (k : Kept). k .combination) l (r .combination) .1
-          (record { of = m .of; member = in-inOrder l (m .of) .0 (m .member); is = m .is }))))
+    insertSeen-ascends (r .combination) (combinations (inOrder l)) (inOrder-ascends l (d .1)) (λ i.
+    let m = in-map (λ (k : Kept). k .combination) (inOrder l) (r .combination) .0 i in
+    d .0 (in-map (λ (k : Kept). k .combination) l (r .combination) .1
+    (record { of = m .of; member = in-inOrder l (m .of) .0 (m .member); is = m .is }))))

@@ -1,12 +1,11 @@
 -- What a property table in its ranges (refusal 11) says, and the state after a sequence of events.
 -- Assumes nothing.
-use Prim.Native.Nat.{ℕ, zero, suc, _^_, _<_, _≤_}
-use mathlib.Core.Path.{_≡_, refl, sym, ap, _∙_}
-use mathlib.Core.Logic.{_⊎_, inl, inr}
-use mathlib.Core.Bool.{Bool, true, false, _&&_}
+use Prim.Native.Nat.{ℕ, _^_, _<_, _≤_}
+use mathlib.Core.Path.{_≡_, refl}
+use mathlib.Core.Logic.{inl, inr}
+use mathlib.Core.Bool.{Bool, true, _&&_}
 use mathlib.Core.List.{List, [], _∷_, _++_}
-use native.Mathlib.Omega.{arith}
-use lib.Dec.{T, leb, ltb, leb→le, ltb→lt}
+use lib.Dec.{leb, ltb, leb→le, ltb→lt}
 use Rattle.document.specs.Lists.{In, everyBelow}
 use Rattle.document.specs.Limits.{width, mostEvents, mostStates}
 use Rattle.document.specs.Property.{Property, setOf, nextState, verdict, inRange, stateFrom, stateAfter}
@@ -37,9 +36,9 @@ ranges p r =
       states = leb→le 1 (p .states) (and-of (leb 1 (p .states)) (leb (p .states) mostStates) (h₄ .1) .0);
       sets = λ e k. ltb→lt (setOf p e) (2 ^ (p .parameters)) (everyBelow-of (p .events) (λ e. ltb (setOf p e) (2 ^ (p .parameters))) (h₂ .1) e k);
       next = λ s e i k.
-        let t = everyBelow-of (p .states) row (h₁ .1) s i in
-        let u = and-of (leb (verdict p s) 2) (everyBelow (p .events) (λ e. ltb (nextState p s e) (p .states))) t in
-        ltb→lt (nextState p s e) (p .states) (everyBelow-of (p .events) (λ e. ltb (nextState p s e) (p .states)) (u .1) e k);
+          let t = everyBelow-of (p .states) row (h₁ .1) s i in
+          let u = and-of (leb (verdict p s) 2) (everyBelow (p .events) (λ e. ltb (nextState p s e) (p .states))) t in
+          ltb→lt (nextState p s e) (p .states) (everyBelow-of (p .events) (λ e. ltb (nextState p s e) (p .states)) (u .1) e k);
     }
 
 -- the state after a sequence -------------------------------------------------------------------------------------------

@@ -4,9 +4,8 @@
 use Prim.Native.Nat.{ℕ}
 use mathlib.Core.Path.{_≡_, refl, sym, ap, _∙_}
 use mathlib.Core.Logic.{_⊎_, inl, inr, _↔_}
-use mathlib.Core.Bool.{Bool, true, false, cond, _||_}
+use mathlib.Core.Bool.{Bool, true, false, _||_}
 use mathlib.Core.List.{List, [], _∷_, _++_}
-use lib.Dec.{T}
 use lib.ListN.{length}
 use Rattle.document.specs.Lists.{In, equal, among}
 use Rattle.document.specs.Combinations.{emptyOf}
@@ -88,5 +87,5 @@ module _ (w : ℕ) where
       elim (either (old b seen)) [
         | inl e ↦ rw (see-old b seen e) a
         | inr e ↦ rw (see-new b seen e) (insertSeen-ascends b seen a (λ i.
-          not-so e (of-or (equal b (emptyOf w)) (among b seen) (inr (among-of b seen .1 i)))))
+            not-so e (of-or (equal b (emptyOf w)) (among b seen) (inr (among-of b seen .1 i)))))
       ]

@@ -1,19 +1,19 @@
 -- The lent tables with rows in them: their rows are those rows, their rooms are as before, the room past the rows is 0, and
 -- rows put in later are put in as if they had come first.
 -- Assumes nothing.
-use Prim.Native.Nat.{ℕ, _+_, _-_, _*_, _/_, _≤_}
-use mathlib.Core.Path.{_≡_, refl, sym, ap, _∙_}
-use mathlib.Core.Bool.{Bool, true, false}
-use mathlib.Core.List.{List, [], _∷_, _++_, append-assoc}
+use Prim.Native.Nat.{ℕ, _-_, _*_, _≤_}
+use mathlib.Core.Path.{_≡_, ap, _∙_}
+use mathlib.Core.Bool.{true}
+use mathlib.Core.List.{List, _++_}
 use mathlib.Core.List as list
 use native.Mathlib.Omega.{arith}
-use lib.ListN.{length, length-map, drop, replicate}
-use Rattle.document.specs.Lists.{In, tabulate, joinedUp}
-use Rattle.document.specs.Limits.{width, mostSeen, mostKept, seenStride, keptStride}
+use lib.ListN.{length, length-map, drop}
+use Rattle.document.specs.Lists.{tabulate, joinedUp}
+use Rattle.document.specs.Limits.{width, seenStride, keptStride}
 use Rattle.document.specs.OneEvent.{Kept}
-use Rattle.document.specs.Tables.{numbersAt, seenRoom, keptRoom, seenRows, keptRows, keptNumbers, filled, seenTable, keptTable}
+use Rattle.document.specs.Tables.{numbersAt, seenRoom, keptRoom, seenRows, keptRows, keptNumbers, seenTable, keptTable}
 use Rattle.document.specs.Session.{Session, seenOf, keptOf, sessionWith, zeroBetween}
-use Rattle.slices.specs.ListsLaws.{Image, in-map}
+use Rattle.slices.specs.ListsLaws.{in-map}
 use Rattle.slices.specs.JoinSeenLaws.{OfWidth}
 use Rattle.slices.specs.TablesLaws.{zeros, rows-back, keptAt, KeptWidth, length-keptNumbers, kept-back, length-joinedUp, length-filled, filled-front, filled-again, zeroBetween-filled}
 
@@ -48,8 +48,8 @@ keptRowNumbers kept = joinedUp (list.map keptNumbers kept)
 length-keptRowNumbers : (kept : List Kept) → KeptWidth width kept → length (keptRowNumbers kept) ≡ length kept * keptStride
 length-keptRowNumbers kept o =
     length-joinedUp keptStride (list.map keptNumbers kept) (λ x i.
-      let m = in-map keptNumbers kept x .0 i in
-      rw (m .is) (length-keptNumbers width (m .of) (o (m .of) (m .member))))
+    let m = in-map keptNumbers kept x .0 i in
+    rw (m .is) (length-keptNumbers width (m .of) (o (m .of) (m .member))))
     ∙ rw (length-map kept keptNumbers)
 
 module _ (s : Session) (seen : List (List ℕ)) (kept : List Kept) (f : Fits s seen kept) where
@@ -86,9 +86,9 @@ module _ (s : Session) (seen : List (List ℕ)) (kept : List Kept) (f : Fits s s
   unfolding sessionWith seenTable keptTable
   with-again seen′ kept′ =
       let a : seenTable seen′ (seenTable seen (s .seen)) ≡ seenTable seen′ (s .seen) =
-          rw seenRoom-with (filled-again (seenRoom (s .seen) * seenStride) (joinedUp seen) (s .seen) seen-fit (seenRoom-holds (s .seen)) (joinedUp seen′)) in
+      rw seenRoom-with (filled-again (seenRoom (s .seen) * seenStride) (joinedUp seen) (s .seen) seen-fit (seenRoom-holds (s .seen)) (joinedUp seen′)) in
       let b : keptTable kept′ (keptTable kept (s .kept)) ≡ keptTable kept′ (s .kept) =
-          rw keptRoom-with (filled-again (keptRoom (s .kept) * keptStride) (keptRowNumbers kept) (s .kept) kept-fit (keptRoom-holds (s .kept)) (keptRowNumbers kept′)) in
+      rw keptRoom-with (filled-again (keptRoom (s .kept) * keptStride) (keptRowNumbers kept) (s .kept) kept-fit (keptRoom-holds (s .kept)) (keptRowNumbers kept′)) in
       λ i. record { seenCount = length seen′; keptCount = length kept′; seen = a i; kept = b i }
 
   pub seen-zero : zeroBetween (sessionWith s seen kept .seenCount * seenStride) (seenRoom (sessionWith s seen kept .seen) * seenStride) (sessionWith s seen kept .seen) ≡ true

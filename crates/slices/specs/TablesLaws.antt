@@ -1,24 +1,23 @@
 -- Rows written into a table are the rows read from it, what lies past the room stays, and the rest of the room is 0.
 -- Any width w and any room; the rooms of the two lent tables at the end.
 -- Assumes nothing.
-use Prim.Native.Nat.{ℕ, zero, suc, _+_, _-_, _*_, _/_, min, _≤_, _<_}
+use Prim.Native.Nat.{ℕ, zero, suc, _+_, _-_, _*_, _≤_}
 use mathlib.Core.Path.{_≡_, refl, sym, ap, ap₂, _∙_}
-use mathlib.Core.Logic.{_⊎_, inl, inr}
-use mathlib.Core.Bool.{Bool, true, false}
+use mathlib.Core.Logic.{inl, inr}
+use mathlib.Core.Bool.{true}
 use mathlib.Core.List.{List, [], _∷_, _++_, append-assoc}
 use mathlib.Core.List as list
 use native.Mathlib.Omega.{arith}
 use native.Mathlib.Nat.{zero-mul, zero-add}
 use lib.Dec.{T, eqb, eqb-refl}
-use lib.ListN.{length, getD, take, drop, replicate, length-append, length-drop, length-replicate}
+use lib.ListN.{length, getD, drop, replicate, length-append, length-drop, length-replicate}
 use lib.Seq.{getD-drop, getD-at, drop-at, take-at}
 use Rattle.document.specs.Lists.{In, every, tabulate, joinedUp}
-use Rattle.document.specs.Limits.{width, mostSeen, mostKept, seenStride, keptStride}
 use Rattle.document.specs.OneEvent.{Kept}
-use Rattle.document.specs.Tables.{numbersAt, seenRoom, keptRoom, seenRows, keptRows, keptNumbers, filled}
+use Rattle.document.specs.Tables.{numbersAt, keptNumbers, filled}
 use Rattle.document.specs.Session.{zeroBetween}
 use Rattle.slices.specs.TestsLaws.{of-and, true-of}
-use Rattle.slices.specs.ListsLaws.{tabulate-same, in-map}
+use Rattle.slices.specs.ListsLaws.{tabulate-same}
 use Rattle.slices.specs.JoinSeenLaws.{OfWidth}
 
 -- Rows one after another -----------------------------------------------------------------------------------------------
@@ -55,11 +54,11 @@ rows-back w [] t o = refl
 rows-back w (r ∷ rows) t o =
     let rest = joinedUp rows ++ t in
     rw (append-assoc r (joinedUp rows) t) (ap₂ _∷_
-      (rw zero-mul (numbersAt-append w r rest (o r (inl refl))))
-      (tabulate-same (length rows) (λ k. numbersAt w (r ++ rest) (suc k * w)) (λ k. numbersAt w rest (k * w)) (λ k.
-        let q : suc k * w ≡ w + k * w = omega arith in
-        rw (q, numbersAt-drop w (r ++ rest) w (k * w), drop-at r rest w (o r (inl refl))))
-      ∙ rows-back w rows t (λ x i. o x (inr i))))
+    (rw zero-mul (numbersAt-append w r rest (o r (inl refl))))
+    (tabulate-same (length rows) (λ k. numbersAt w (r ++ rest) (suc k * w)) (λ k. numbersAt w rest (k * w)) (λ k.
+    let q : suc k * w ≡ w + k * w = omega arith in
+    rw (q, numbersAt-drop w (r ++ rest) w (k * w), drop-at r rest w (o r (inl refl))))
+    ∙ rows-back w rows t (λ x i. o x (inr i))))
 
 -- each row has a combination of width w
 abbrev pub KeptWidth : ℕ → List Kept → Type 0
@@ -84,12 +83,12 @@ kept-back w [] t o = refl
 kept-back w (r ∷ rows) t o =
     let rest = joinedUp (list.map keptNumbers rows) ++ t in
     rw (append-assoc (keptNumbers r) (joinedUp (list.map keptNumbers rows)) t) (ap₂ _∷_
-      (rw zero-mul (keptAt-append w r rest (o r (inl refl))))
-      (tabulate-same (length rows) (λ k. keptAt w (keptNumbers r ++ rest) (suc k * (w + 1))) (λ k. keptAt w rest (k * (w + 1))) (λ k.
-        let q : suc k * (w + 1) ≡ (w + 1) + k * (w + 1) = omega arith in
-        let d : drop (w + 1) (keptNumbers r ++ rest) ≡ rest = drop-at (keptNumbers r) rest (w + 1) (length-keptNumbers w r (o r (inl refl))) in
-        rw q (keptAt-drop w (keptNumbers r ++ rest) (w + 1) (k * (w + 1)) ∙ ap (λ (l : List ℕ). keptAt w l (k * (w + 1))) d))
-      ∙ kept-back w rows t (λ x i. o x (inr i))))
+    (rw zero-mul (keptAt-append w r rest (o r (inl refl))))
+    (tabulate-same (length rows) (λ k. keptAt w (keptNumbers r ++ rest) (suc k * (w + 1))) (λ k. keptAt w rest (k * (w + 1))) (λ k.
+    let q : suc k * (w + 1) ≡ (w + 1) + k * (w + 1) = omega arith in
+    let d : drop (w + 1) (keptNumbers r ++ rest) ≡ rest = drop-at (keptNumbers r) rest (w + 1) (length-keptNumbers w r (o r (inl refl))) in
+    rw q (keptAt-drop w (keptNumbers r ++ rest) (w + 1) (k * (w + 1)) ∙ ap (λ (l : List ℕ). keptAt w l (k * (w + 1))) d))
+    ∙ kept-back w rows t (λ x i. o x (inr i))))
 
 pub length-joinedUp : (w : ℕ) (rows : List (List ℕ)) → OfWidth w rows → length (joinedUp rows) ≡ length rows * w
 unfolding joinedUp
@@ -138,6 +137,9 @@ module _ (size : ℕ) (numbers old : List ℕ) (fits : length numbers ≤ size) 
   unfolding filled zeroBetween
   zeroBetween-filled =
       let n = size - length numbers in
-      rw (append-assoc numbers (zeros n) (drop size old), drop-at numbers (zeros n ++ drop size old) (length numbers) refl,
-        take-at (zeros n) (drop size old) n (length-zeros n))
+      rw (
+        append-assoc numbers (zeros n) (drop size old),
+        drop-at numbers (zeros n ++ drop size old) (length numbers) refl,
+        take-at (zeros n) (drop size old) n (length-zeros n),
+      )
       (true-of (every (λ x. eqb x 0) (zeros n)) (all-zero n))
