@@ -2,7 +2,7 @@
 -- combination and are hopeful, numbers past the parameters 0.
 -- Assumes nothing.
 use Prim.Native.Nat.{ℕ, zero, suc, _+_, _^_, _<_, _≤_}
-use mathlib.Core.Path.{_≡_, refl}
+use mathlib.Core.Path.{_≡_, refl, ap, _∙_}
 use mathlib.Core.Logic.{inl, inr, _↔_}
 use mathlib.Core.Bool.{true, false, cond, not}
 use mathlib.Core.List.{List, [], _∷_}
@@ -17,7 +17,7 @@ use Rattle.document.specs.Combinations.{bindsFrom, bindsExactly, zeroPast}
 use Rattle.document.specs.Histories.{Event, slice, IsBinding, joinAll, Made}
 use Rattle.document.specs.OneEvent.{Kept}
 use Rattle.document.specs.Property.{Property, inRange, setOf, stateAfter, hopeful}
-use Rattle.document.specs.Session.{Session, keeps}
+use Rattle.document.specs.Session.{Session, seenOf, keptOf, keeps}
 use Rattle.document.specs.Demands.{Lists, itself, SeenIn, KeptIn, Proper, Holds}
 use Rattle.slices.specs.TestsLaws.{so, and-of, of-and}
 use Rattle.slices.specs.CombinationsLaws.{zeroPast-empty, zeroPast-join}
@@ -28,7 +28,7 @@ use Rattle.slices.specs.SeenLaws.{Sees}
 use Rattle.slices.specs.OneEventLaws.{Follows}
 use Rattle.slices.specs.PropertyLaws.{ranges, stateAfter-range}
 use Rattle.slices.specs.HopefulLaws.{hopeful-right}
-use Rattle.slices.specs.SessionLaws.{Fits}
+use Rattle.slices.specs.SessionLaws.{Fits, seenOf-with, keptOf-with}
 
 -- A binding of an event is 0 past the parameters -----------------------------------------------------------------------
 
@@ -136,3 +136,11 @@ standing p r H s h =
         keptRows = h .keptRows;
       };
     }
+
+-- the rows of the tables are the lists
+module _ (p : Property) (r : inRange p ≡ true) (H : List Event) (s : Session) (h : Holds p H s) where
+  pub seenOf-holds : seenOf s ≡ h .seen
+  seenOf-holds = ap seenOf (h .tables) ∙ seenOf-with s (h .seen) (h .kept) (standing p r H s h .fits)
+
+  pub keptOf-holds : keptOf s ≡ h .kept
+  keptOf-holds = ap keptOf (h .tables) ∙ keptOf-with s (h .seen) (h .kept) (standing p r H s h .fits)
