@@ -69,7 +69,8 @@ unfolding ascending
 first-seen = record { order = refl; exactly = λ x. ((λ i. absurd i), (λ m. absurd (m .binding .accepted))) }
 
 -- only the empty combination is made of no events, in state 0
-first-follows : (p : Property) (k : Kept) → Follows width (stateAfter p) [] k ↔ (k ≡ record { combination = emptyOf width; state = 0 })
+first-follows : (p : Property) (k : Kept)
+    → Follows width (stateAfter p) [] k ↔ (k ≡ record { combination = emptyOf width; state = 0 })
 unfolding slice stateAfter stateFrom joinSeen
 first-follows p k = (
   (λ f.
@@ -107,7 +108,8 @@ starts p seen kept s e =
     let b = passed full noRoomForKept (taken (sessionWith lent [] (firstKept p))) s (a .1) in
     let r : inRange p ≡ true = not-false (inRange p) (a .0) in
     rw (← taken-same (sessionWith lent [] (firstKept p)) s (b .1))
-    (holds-with p r [] lent [] (firstKept p) (none p) first-seen (first-kept p r) zero-le (ltb-false (keptRoom kept) (length (firstKept p)) (b .0)))
+    (holds-with p r [] lent [] (firstKept p) (none p) first-seen (first-kept p r) zero-le
+    (ltb-false (keptRoom kept) (length (firstKept p)) (b .0)))
 
 -- An event that is taken -----------------------------------------------------------------------------------------------
 
@@ -140,11 +142,13 @@ goes-on p H s r st reports n e b h o q =
     let fullSeen = ltb (seenRoom (s .seen)) (length (a .seen)) in
     let fullKept = ltb (keptRoom (s .kept)) (length (a .kept)) in
     let fullReports = ltb (reportRoom reports) (length (a .rows)) in
-    let h₁ = passed fullSeen noRoomForSeen (refuseIf fullKept noRoomForKept (refuseIf fullReports noRoomForReports (taken left))) h (sym (a .answer) ∙ q) in
-    let h₂ = passed fullKept noRoomForKept (refuseIf fullReports noRoomForReports (taken left)) h (h₁ .1) in
+    let from-reports = refuseIf fullReports noRoomForReports (taken left) in
+    let h₁ = passed fullSeen noRoomForSeen (refuseIf fullKept noRoomForKept from-reports) h (sym (a .answer) ∙ q) in
+    let h₂ = passed fullKept noRoomForKept from-reports h (h₁ .1) in
     let h₃ = passed fullReports noRoomForReports (taken left) h (h₂ .1) in
     rw (← taken-same left h (h₃ .1)) (
-    holds-with p r (extended p H n e b) s (a .seen) (a .kept) (history-more p H n e b (st .history) proper) (a .seenLists) (a .keptLists)
+    holds-with p r (extended p H n e b) s (a .seen) (a .kept) (history-more p H n e b (st .history) proper)
+    (a .seenLists) (a .keptLists)
     (ltb-false (seenRoom (s .seen)) (length (a .seen)) (h₁ .0)) (ltb-false (keptRoom (s .kept)) (length (a .kept)) (h₂ .0)))
 
 pub demand-3 : Demand3

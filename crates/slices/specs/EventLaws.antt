@@ -27,11 +27,13 @@ use Rattle.slices.specs.HopefulLaws.{hopeful-before}
 use Rattle.slices.specs.HoldsLaws.{ProperHistory, history-width, slice-range, kept-follows, seen-lists, Standing, standing, seenOf-holds, keptOf-holds}
 use Rattle.slices.specs.SoundLaws.{holds-sound}
 
-pub history-more : (p : Property) (H : List Event) (n e : ℕ) (b : List ℕ) → ProperHistory p H → Proper p e b → ProperHistory p (extended p H n e b)
+pub history-more : (p : Property) (H : List Event) (n e : ℕ) (b : List ℕ) → ProperHistory p H → Proper p e b
+    → ProperHistory p (extended p H n e b)
 history-more p H n e b f q h i =
     elim (in-more H (record { row = n; event = e; binding = b }) h i) [ inl j ↦ f h j | inr z ↦ rw z q ]
 
-module _ (p : Property) (H : List Event) (s : Session) (r : inRange p ≡ true) (h : Holds p H s) (n e : ℕ) (b : List ℕ) (q : Proper p e b) where
+module _ (p : Property) (H : List Event) (s : Session) (r : inRange p ≡ true) (h : Holds p H s)
+    (n e : ℕ) (b : List ℕ) (q : Proper p e b) where
   abbrev more : List Event
   more = extended p H n e b
 
@@ -101,5 +103,8 @@ module _ (p : Property) (H : List Event) (s : Session) (r : inRange p ≡ true) 
         seenLists = seen-lists-after;
         keptLists = kept-lists-after;
         reportLists = report-lists-after;
-        answer = rw (r, holds-sound p r H s h, lt-leb (p .events) e (q .declared), q .values, seenOf-holds p r H s h, keptOf-holds p r H s h, zero-add);
+        answer =
+            let sound = holds-sound p r H s h in
+            let declared = lt-leb (p .events) e (q .declared) in
+            rw (r, sound, declared, q .values, seenOf-holds p r H s h, keptOf-holds p r H s h, zero-add);
       }

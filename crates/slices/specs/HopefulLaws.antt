@@ -39,7 +39,8 @@ same-or-fewer [] (y ∷ m) h = absurd h
 same-or-fewer (x ∷ l) [] h = absurd h
 same-or-fewer (true ∷ l) (true ∷ m) h = elim (same-or-fewer l m (h .1)) [ inl e ↦ inl (rw e) | inr d ↦ inr d ]
 same-or-fewer (true ∷ l) (false ∷ m) h = absurd (h .0 tt)
-same-or-fewer (false ∷ l) (true ∷ m) h = elim (same-or-fewer l m (h .1)) [ inl e ↦ inr (let q = ap down e in omega arith) | inr d ↦ inr (omega arith) ]
+same-or-fewer (false ∷ l) (true ∷ m) h =
+    elim (same-or-fewer l m (h .1)) [ inl e ↦ inr (let q = ap down e in omega arith) | inr d ↦ inr (omega arith) ]
 same-or-fewer (false ∷ l) (false ∷ m) h = elim (same-or-fewer l m (h .1)) [ inl e ↦ inl (rw e) | inr d ↦ inr (omega arith) ]
 
 within-getD : (l m : List Bool) → Within l m → (k : ℕ) → T (getD l k false) → T (getD m k false)
@@ -150,7 +151,8 @@ module _ (p : Property) (marked allowed : ℕ → Bool) where
           let out : length (round flags) ≤ s = simp length-tabulate (omega arith) in
           absurd (rw (List·getD-eq-default (round flags) false out) at t)
 
-  pub step-leads : (s e : ℕ) → e < p .events → T (allowed e) → T (marked (nextState p s e)) ⊎ Leads p marked allowed (nextState p s e) → Leads p marked allowed s
+  pub step-leads : (s e : ℕ) → e < p .events → T (allowed e)
+      → T (marked (nextState p s e)) ⊎ Leads p marked allowed (nextState p s e) → Leads p marked allowed s
   unfolding stateFrom
   step-leads s e h t (inl m) = record {
     first = e;
@@ -177,7 +179,10 @@ module _ (p : Property) (marked allowed : ℕ → Bool) where
       none (suc n) (suc s) t = none n s t
   found-leads (suc n) s t =
       let h = leadsIn-of (found n) s (getD-round (found n) s t) in
-      step-leads s (h .event) (h .declared) (h .permitted) (elim (h .arrives) [ inl m ↦ inl m | inr f ↦ inr (found-leads n (nextState p s (h .event)) f) ])
+      step-leads s (h .event) (h .declared) (h .permitted) (elim (h .arrives) [
+        | inl m ↦ inl m
+        | inr f ↦ inr (found-leads n (nextState p s (h .event)) f)
+      ])
 
   -- What is meant is found ---------------------------------------------------------------------------------------------
 

@@ -106,7 +106,8 @@ module _ {w : ℕ} {step : ℕ → ℕ → ℕ} {stateOf : List ℕ → ℕ} {ke
       let b = h .binding in
       let c = join b (k .combination) in
       let m = moves-of k t in
-      let oc : length c ≡ w = length-join w b (k .combination) (known .width) (length-made w H (known .widths) (k .combination) (f .made)) in
+      let ok : length (k .combination) ≡ w = length-made w H (known .widths) (k .combination) (f .made) in
+      let oc : length c ≡ w = length-join w b (k .combination) (known .width) ok in
       let from : joinOf w c H ≡ k .combination = sym (known .joins c oc) ∙ m .1 in
       let i : T (includes c b) = join-includes-left b (k .combination) (m .0) in
       let e : includes c b ≡ true = true-of (includes c b) i in (

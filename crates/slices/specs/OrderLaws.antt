@@ -117,7 +117,10 @@ ascends-unique f (x ∷ l) (y ∷ m) p q g =
       | inl r ↦ r
       | inr i ↦ elim (g y .1 (inl refl)) [
         | inl r ↦ sym r
-        | inr k ↦ absurd (precedes-irrefl (f x) (precedes-trans (f x) (f y) (f x) (p .0 (f y) (map-in f l y k)) (q .0 (f x) (map-in f m x i))))
+        | inr k ↦
+            let before : T (precedes (f x) (f y)) = p .0 (f y) (map-in f l y k) in
+            let after : T (precedes (f y) (f x)) = q .0 (f x) (map-in f m x i) in
+            absurd (precedes-irrefl (f x) (precedes-trans (f x) (f y) (f x) before after))
       ]
     ] in
     ap₂ _∷_ e (ascends-unique f l m (p .1) (q .1) (λ z. (
@@ -142,11 +145,13 @@ insertSeen-here : (b x : List ℕ) (l : List (List ℕ)) → precedes x b ≡ fa
 unfolding insertSeen
 insertSeen-here b x l e = rw (insertSeen, e)
 
-insertKept-after : (r x : Kept) (l : List Kept) → precedes (x .combination) (r .combination) ≡ true → insertKept r (x ∷ l) ≡ x ∷ insertKept r l
+insertKept-after : (r x : Kept) (l : List Kept) → precedes (x .combination) (r .combination) ≡ true
+    → insertKept r (x ∷ l) ≡ x ∷ insertKept r l
 unfolding insertKept
 insertKept-after r x l e = rw (insertKept, e)
 
-insertKept-here : (r x : Kept) (l : List Kept) → precedes (x .combination) (r .combination) ≡ false → insertKept r (x ∷ l) ≡ r ∷ x ∷ l
+insertKept-here : (r x : Kept) (l : List Kept) → precedes (x .combination) (r .combination) ≡ false
+    → insertKept r (x ∷ l) ≡ r ∷ x ∷ l
 unfolding insertKept
 insertKept-here r x l e = rw (insertKept, e)
 
@@ -191,7 +196,11 @@ unfolding insertKept insertSeen
 insertKept-combinations r [] = refl
 insertKept-combinations r (x ∷ l) =
     elim (either (precedes (x .combination) (r .combination))) [
-      | inl e ↦ rw (insertKept-after r x l e, insertSeen-after (r .combination) (x .combination) (combinations l) e, insertKept-combinations r l)
+      | inl e ↦ rw (
+        insertKept-after r x l e,
+        insertSeen-after (r .combination) (x .combination) (combinations l) e,
+        insertKept-combinations r l,
+      )
       | inr e ↦ rw (insertKept-here r x l e, insertSeen-here (r .combination) (x .combination) (combinations l) e)
     ]
 
