@@ -1,5 +1,5 @@
 -- Document 01, "One event" and "Numbers of refusal": the calls of a session over lent tables: start, one event, lookup, and
--- the session check (refusal 12). Each answers for every input; on a refusal every lent number stays (`eventLeaves`).
+-- the session check (refusal 12). Each answers for every input; on a refusal every lent number stays (`leaves`, `startLeaves`).
 -- Assumes nothing.
 use Prim.Native.Nat.{ℕ, zero, suc, _+_, _-_, _*_}
 use mathlib.Core.Bool.{Bool, true, false, not, cond, _&&_, _||_}
