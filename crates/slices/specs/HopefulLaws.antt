@@ -1,6 +1,6 @@
 -- The hopeful states as worked out in rounds are those that are meant: `leads` holds exactly where a sequence of one or more
--- allowed events leads to a marked state. Each round finds what the one before found; a round that finds nothing new is the
--- last that does, and every other puts up a flag more, so after as many rounds as there are states nothing new is found.
+-- allowed events leads to a marked state. Each round finds all that the one before found. After a round
+-- that finds nothing new none does, and every other puts a flag more up: so after as many rounds as there are states, none does.
 -- Assumes nothing.
 use Prim.Native.Nat.{ℕ, zero, suc, _+_, _<_, _≤_}
 use mathlib.Core.Path.{_≡_, refl, ap}
@@ -117,7 +117,7 @@ module _ (p : Property) (marked allowed : ℕ → Bool) where
   found-within zero = within-first (p .states) (leadsIn p marked allowed (replicate (p .states) false))
   found-within (suc n) = round-within (found n) (found (suc n)) (found-within n)
 
-  -- each round finds nothing new, or more flags are up than there were rounds
+  -- the next round finds nothing new, or at least as many flags are up as there were rounds
   settles : (n : ℕ) → (found (suc n) ≡ found n) ⊎ (down (found n) + n ≤ p .states)
   unfolding leadsAfter
   settles zero = inr (let q = down-replicate (p .states) in omega arith)
