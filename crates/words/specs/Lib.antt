@@ -1,2 +1,5 @@
 pub mod Sets
 pub mod Numbers
+pub mod Readings
+pub mod Steps
+pub mod StepsBack

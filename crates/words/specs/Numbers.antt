@@ -5,7 +5,7 @@ use Prim.Native.Nat.{ℕ, zero, suc, _<_, _≤_}
 use native.Mathlib.Omega.{arith}
 use mathlib.Core.Path.{_≡_, refl}
 use mathlib.Core.Logic.{_⊎_, inl, inr, ⊎-elim}
-use mathlib.Core.Bool.{Bool, true, false, cond}
+use mathlib.Core.Bool.{cond}
 use mathlib.Core.List.{List}
 use lib.Dec.{eqb}
 use lib.Bits.{bitOr}
@@ -13,7 +13,7 @@ use Rattle.document.specs.Patterns.{Pattern, epsilon, name, alternative, sequen
 use Rattle.document.specs.Tokens.{Token}
 use Rattle.document.specs.Grammar.{Kind, Reads, one-sequence, either, one-repetition, beside, one-atom, starred, plussed, event, empty, grouped}
 use Rattle.document.specs.Positions.{Stops, holds, nullable, firsts, lasts, follows, named}
-use Rattle.words.specs.Sets.{Has, none-has, one-has, or-has, guarded-has}
+use Rattle.words.specs.Sets.{Has, none-has, one-has, or-has, guarded-has, with-right-has, with-left-has}
 
 -- the numbers of r lie above lo, up to hi, and grow from the left
 abbrev pub Numbered : Pattern → ℕ → ℕ → Type 0
@@ -72,12 +72,9 @@ firsts-lie epsilon lo hi n p h = absurd (none-has p h)
 firsts-lie (name q f) lo hi n p h = let x = one-has q p h in omega arith
 firsts-lie (alternative a b) lo hi n p h =
     or-lies a b lo hi n (firsts a) (firsts b) p (firsts-lie a lo (n .0) (n .1 .0) p) (firsts-lie b (n .0) hi (n .1 .1) p) h
-firsts-lie (sequence a b) lo hi n p h = go (nullable a) (firsts-lie a lo (n .0) (n .1 .0) p) (firsts-lie b (n .0) hi (n .1 .1) p) h
-  where
-    go : (t : Bool) → (Has (firsts a) p → Lies lo (n .0) p) → (Has (firsts b) p → Lies (n .0) hi p)
-        → Has (cond t (bitOr (firsts a) (firsts b)) (firsts a)) p → Lies lo hi p
-    go true f g x = or-lies a b lo hi n (firsts a) (firsts b) p f g x
-    go false f g x = lies-left a b lo hi n p (f x)
+firsts-lie (sequence a b) lo hi n p h = ⊎-elim
+    (λ x. lies-left a b lo hi n p (firsts-lie a lo (n .0) (n .1 .0) p x))
+    (λ x. lies-right a b lo hi n p (firsts-lie b (n .0) hi (n .1 .1) p (x .1))) (with-right-has (nullable a) (firsts a) (firsts b) p h)
 firsts-lie (star a) lo hi n p h = firsts-lie a lo hi n p h
 firsts-lie (plus a) lo hi n p h = firsts-lie a lo hi n p h
 
@@ -87,12 +84,9 @@ lasts-lie epsilon lo hi n p h = absurd (none-has p h)
 lasts-lie (name q f) lo hi n p h = let x = one-has q p h in omega arith
 lasts-lie (alternative a b) lo hi n p h =
     or-lies a b lo hi n (lasts a) (lasts b) p (lasts-lie a lo (n .0) (n .1 .0) p) (lasts-lie b (n .0) hi (n .1 .1) p) h
-lasts-lie (sequence a b) lo hi n p h = go (nullable b) (lasts-lie a lo (n .0) (n .1 .0) p) (lasts-lie b (n .0) hi (n .1 .1) p) h
-  where
-    go : (t : Bool) → (Has (lasts a) p → Lies lo (n .0) p) → (Has (lasts b) p → Lies (n .0) hi p)
-        → Has (cond t (bitOr (lasts a) (lasts b)) (lasts b)) p → Lies lo hi p
-    go true f g x = or-lies a b lo hi n (lasts a) (lasts b) p f g x
-    go false f g x = lies-right a b lo hi n p (g x)
+lasts-lie (sequence a b) lo hi n p h = ⊎-elim
+    (λ x. lies-right a b lo hi n p (lasts-lie b (n .0) hi (n .1 .1) p x))
+    (λ x. lies-left a b lo hi n p (lasts-lie a lo (n .0) (n .1 .0) p (x .1))) (with-left-has (nullable b) (lasts a) (lasts b) p h)
 lasts-lie (star a) lo hi n p h = lasts-lie a lo hi n p h
 lasts-lie (plus a) lo hi n p h = lasts-lie a lo hi n p h
 

@@ -5,7 +5,7 @@ use Prim.Native.Nat.{ℕ, zero, suc, _+_, _-_, _*_, _/_, _%_, _^_, _<_, _≤_}
 use native.Mathlib.Omega.{arith}
 use native.Mathlib.Nat.{mod-lt, zero-lt-suc, pow-suc, mul-mod-left, div-eq-of-lt, zero-div}
 use mathlib.Core.Path.{_≡_, refl, sym, ap, _∙_}
-use mathlib.Core.Logic.{_⊎_, inl, inr}
+use mathlib.Core.Logic.{_⊎_, inl, inr, ⊎-elim}
 use mathlib.Core.Bool.{Bool, true, false, cond, _||_, _&&_, true≢false}
 use lib.Dec.{eqb, ltb}
 use lib.Bits.{bitOr, bitAnd, or-shr, or-mod, and-shr, and-mod}
@@ -133,6 +133,24 @@ guarded-has false a p h = absurd (none-has p h)
 
 pub has-guarded : (t : Bool) (a p : ℕ) → t ≡ true → Has a p → Has (cond t a 0) p
 has-guarded t a p e h = rw e h
+
+-- a, and b too where the test holds
+pub with-right-has : (t : Bool) (a b p : ℕ) → Has (cond t (bitOr a b) a) p → Has a p ⊎ ((t ≡ true) × Has b p)
+with-right-has true a b p h = ⊎-elim inl (λ x. inr (refl, x)) (or-has a b p h)
+with-right-has false a b p h = inl h
+
+pub has-with-right : (t : Bool) (a b p : ℕ) → Has a p ⊎ ((t ≡ true) × Has b p) → Has (cond t (bitOr a b) a) p
+has-with-right true a b p h = ⊎-elim (has-or-left a b p) (λ x. has-or-right a b p (x .1)) h
+has-with-right false a b p h = ⊎-elim (λ x. x) (λ x. absurd (true≢false (sym (x .0)))) h
+
+-- b, and a too where the test holds
+pub with-left-has : (t : Bool) (a b p : ℕ) → Has (cond t (bitOr a b) b) p → Has b p ⊎ ((t ≡ true) × Has a p)
+with-left-has true a b p h = ⊎-elim (λ x. inr (refl, x)) inl (or-has a b p h)
+with-left-has false a b p h = inl h
+
+pub has-with-left : (t : Bool) (a b p : ℕ) → Has b p ⊎ ((t ≡ true) × Has a p) → Has (cond t (bitOr a b) b) p
+has-with-left true a b p h = ⊎-elim (has-or-right a b p) (λ x. has-or-left a b p (x .1)) h
+has-with-left false a b p h = ⊎-elim (λ x. x) (λ x. absurd (true≢false (sym (x .0)))) h
 
 -- ---- a set that is not 0 holds a number
 shifted : (s p : ℕ) → holds (s / 2) p ≡ holds s (suc p)
