@@ -3,3 +3,5 @@ pub mod Numbers
 pub mod Readings
 pub mod Steps
 pub mod StepsBack
+pub mod Moves
+pub mod Matching
