@@ -5,3 +5,4 @@ pub mod Steps
 pub mod StepsBack
 pub mod Moves
 pub mod Matching
+pub mod Places
