@@ -6,3 +6,4 @@ pub mod StepsBack
 pub mod Moves
 pub mod Matching
 pub mod Places
+pub mod Closed
