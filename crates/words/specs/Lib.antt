@@ -7,3 +7,5 @@ pub mod Moves
 pub mod Matching
 pub mod Places
 pub mod Closed
+pub mod Walks
+pub mod Count
