@@ -9,3 +9,6 @@ pub mod Places
 pub mod Closed
 pub mod Walks
 pub mod Count
+pub mod Range
+pub mod Table
+pub mod Taken
