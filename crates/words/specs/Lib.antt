@@ -12,3 +12,5 @@ pub mod Count
 pub mod Range
 pub mod Table
 pub mod Taken
+pub mod Names
+pub mod Meaning
