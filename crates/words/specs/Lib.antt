@@ -14,3 +14,4 @@ pub mod Table
 pub mod Taken
 pub mod Names
 pub mod Meaning
+pub mod DemandTwo

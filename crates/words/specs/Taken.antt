@@ -21,20 +21,20 @@ use Rattle.document.specs.Declarations.{Declared, isName, isMark, setFrom, head
 use Rattle.words.specs.Table.{Fits}
 
 -- ---- answers
-clash : {A : Type 0} {x : A} {q : Refusal} {at : ℕ} → refused q at ≡ taken x → ⊥
-clash h = let z : _≡_ {A = ℕ} 0 1 = cc in omega arith
+pub refused-taken : {A : Type 0} {x : A} {q : Refusal} {at : ℕ} → refused q at ≡ taken x → ⊥
+refused-taken h = let z : _≡_ {A = ℕ} 0 1 = cc in omega arith
 
 pub taken-injective : {A : Type 0} {x y : A} → taken x ≡ taken y → x ≡ y
 taken-injective h = cc
 
 -- an answer that is taken passed the test
 pub refuse-if-taken : {A : Type 0} (t : Bool) (q : Refusal) (a : Answer A) (x : A) → refuseIf t q a ≡ taken x → (t ≡ false) × (a ≡ taken x)
-refuse-if-taken true q a x h = absurd (clash h)
+refuse-if-taken true q a x h = absurd (refused-taken h)
 refuse-if-taken false q a x h = (refl, h)
 
 pub and-then-taken : {A B : Type 0} (a : Answer A) (f : A → Answer B) (y : B) → andThen a f ≡ taken y → (x : A) × (a ≡ taken x) × (f x ≡ taken y)
 and-then-taken (taken x) f y h = (x, refl, h)
-and-then-taken (refused q at) f y h = absurd (clash h)
+and-then-taken (refused q at) f y h = absurd (refused-taken h)
 
 or-false : (a b : Bool) → a || b ≡ false → (a ≡ false) × (b ≡ false)
 or-false true b h = (h, cc)
