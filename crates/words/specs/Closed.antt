@@ -32,9 +32,10 @@ module _ (anew : Bool) (r : Pattern) (m : ℕ) where
 
   pub reached-move : (x e : ℕ) → Reached x → e < m → Reached (move anew r x e)
   reached-move x e h l = record {
-      sequence = h .sequence ++ (e ∷ []);
-      declared = λ f i. ⊎-elim (h .declared f) (⊎-elim (λ (j : f ≡ e). omega arith) (λ j. absurd j)) (in-append f (h .sequence) (e ∷ []) i);
-      is = set-after-event anew r (h .sequence) e ∙ ap (λ (s : ℕ). move anew r s e) (h .is) }
+    sequence = h .sequence ++ (e ∷ []);
+    declared = λ f i. ⊎-elim (h .declared f) (⊎-elim (λ (j : f ≡ e). omega arith) (λ j. absurd j)) (in-append f (h .sequence) (e ∷ []) i);
+    is = set-after-event anew r (h .sequence) e ∙ ap (λ (s : ℕ). move anew r s e) (h .is);
+  }
 
   -- ---- the events at one state: n of them, from e on
   pub record FindsAll (s e n : ℕ) (found new : List ℕ) : Type 0 where
@@ -90,12 +91,13 @@ module _ (anew : Bool) (r : Pattern) (m : ℕ) where
       → (k e : ℕ) → k < length (g .table) → k < length (g .sets) → Entry g k e → Entry h k e
   entry-stays g h row i x k e a b old =
       let same : entryOf h k e ≡ entryOf g k e =
-          ap (λ (t : List (List ℕ)). getD (getD t k []) e 0) i ∙ ap (λ (l : List ℕ). getD l e 0) (List·getD-append (g .table) (row ∷ []) [] k a) in
+      ap (λ (t : List (List ℕ)). getD (getD t k []) e 0) i ∙ ap (λ (l : List ℕ). getD l e 0) (List·getD-append (g .table) (row ∷ []) [] k a) in
       let p = old .below in
       let q = extends-length (g .sets) (h .sets) x in
       record {
         below = rw same (omega arith);
-        is = rw (same, extends-at (g .sets) (h .sets) x (entryOf g k e) p, extends-at (g .sets) (h .sets) x k b) (old .is) }
+        is = rw (same, extends-at (g .sets) (h .sets) x (entryOf g k e) p, extends-at (g .sets) (h .sets) x k b) (old .is);
+      }
 
   -- the states after going through state i
   gone-through : ℕ → Found → Found
@@ -107,34 +109,42 @@ module _ (anew : Bool) (r : Pattern) (m : ℕ) where
   through-next : (i : ℕ) (g : Found) → Through i g → i < length (g .sets) → Through (suc i) (gone-through i g)
   unfolding gone-through
   through-next i g t l = record {
-      starts = extends-twice (startSet ∷ []) (g .sets) found (t .starts) (all .extends);
-      distinct = all .distinct;
-      reached = all .reached;
-      rows = length-append (g .table) (row ∷ []) ∙ (let z = t .rows in omega arith);
-      gone = omega (arith, longer);
-      entry = λ k h e b. entry k e b (eqb k i) refl h }
+    starts = extends-twice (startSet ∷ []) (g .sets) found (t .starts) (all .extends);
+    distinct = all .distinct;
+    reached = all .reached;
+    rows = length-append (g .table) (row ∷ []) ∙ (let z = t .rows in omega arith);
+    gone = omega (arith, longer);
+    entry = λ k h e b. entry k e b (eqb k i) refl h;
+  }
     where
       s : ℕ
       s = getD (g .sets) i 0
+
       found : List ℕ
       found = findAll anew r s 0 m (g .sets)
+
       row : List ℕ
       row = rowOf anew r s 0 m found
+
       all : FindsAll s 0 m (g .sets) found
       all = find-all s 0 m (g .sets) (omega arith) (t .reached s (at-in (g .sets) i l)) (t .distinct) (t .reached)
+
       longer : length (g .sets) ≤ length found
       longer = extends-length (g .sets) found (all .extends)
+
       entry-new : (e : ℕ) → e < m → Entry (gone-through i g) i e
       entry-new e b =
           let here : getD (g .table ++ (row ∷ [])) i [] ≡ row = rw (t .rows) at (getD-append-seam (g .table) row [] []) in
           let z : 0 + e ≡ e = omega arith in
           let same : getD (getD (g .table ++ (row ∷ [])) i []) e 0 ≡ stateOf (move anew r s e) found =
-              ap (λ (k : List ℕ). getD k e 0) here ∙ row-at s 0 m found e b ∙ ap (λ (f : ℕ). stateOf (move anew r s f) found) z in
+          ap (λ (k : List ℕ). getD k e 0) here ∙ row-at s 0 m found e b ∙ ap (λ (f : ℕ). stateOf (move anew r s f) found) z in
           let known : In (move anew r s e) found = rw z at (all .has e b) in
           let below = in-state (move anew r s e) found known in
           record {
             below = rw same below;
-            is = rw same (state-at (move anew r s e) found below ∙ ap (λ (x : ℕ). move anew r x e) (sym (extends-at (g .sets) found (all .extends) i l))) }
+            is = rw same (state-at (move anew r s e) found below ∙ ap (λ (x : ℕ). move anew r x e) (sym (extends-at (g .sets) found (all .extends) i l)));
+          }
+
       entry : (k e : ℕ) → e < m → (u : Bool) → eqb k i ≡ u → k < suc i → Entry (gone-through i g) k e
       entry k e b true u h = rw (eqb-true k i u) (entry-new e b)
       entry k e b false u h =
@@ -163,12 +173,13 @@ module _ (anew : Bool) (r : Pattern) (m : ℕ) where
   pub states-ended : Ended 0 (suc mostStates) (statesOf anew r m)
   unfolding statesOf
   states-ended = go-through (suc mostStates) 0 (record { sets = startSet ∷ []; table = [] }) (record {
-      starts = extends-itself (startSet ∷ []);
-      distinct = (λ i. i, tt);
-      reached = λ x i. ⊎-elim (λ (j : x ≡ startSet). rw j reached-start) (λ j. absurd j) i;
-      rows = refl;
-      gone = omega arith;
-      entry = λ k h e b. absurd (omega arith) })
+    starts = extends-itself (startSet ∷ []);
+    distinct = (λ i. i, tt);
+    reached = λ x i. ⊎-elim (λ (j : x ≡ startSet). rw j reached-start) (λ j. absurd j) i;
+    rows = refl;
+    gone = omega arith;
+    entry = λ k h e b. absurd (omega arith);
+  })
 
   -- where they are at most 64, all are gone through: the table is closed
   pub states-closed : length (statesOf anew r m .sets) ≤ mostStates → Through (length (statesOf anew r m .sets)) (statesOf anew r m)

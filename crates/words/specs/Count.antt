@@ -4,14 +4,14 @@
 use Prim.Native.Nat.{ℕ, zero, suc, _<_, _≤_}
 use native.Mathlib.Omega.{arith}
 use mathlib.Core.Path.{_≡_, refl, sym, ap, _∙_}
-use mathlib.Core.Logic.{_⊎_, inl, inr, ⊎-elim, _↔_}
+use mathlib.Core.Logic.{inl, inr, ⊎-elim, _↔_}
 use mathlib.Core.Bool.{Bool, true, false}
 use mathlib.Core.List.{List, [], _∷_}
 use mathlib.Core.List as list
 use lib.ListN.{length, take, length-map}
 use lib.Seq.{length-take-le}
 use lib.Dec.{ltb}
-use borrow.Author.Tests.{ltb-true, ltb-false, lt-ltb}
+use borrow.Author.Tests.{ltb-true, ltb-false}
 use Rattle.document.specs.Lists.{In}
 use Rattle.document.specs.Limits.{mostStates}
 use Rattle.document.specs.Patterns.{Pattern, Among}
@@ -51,7 +51,8 @@ module _ (anew : Bool) (r : Pattern) (m : ℕ) where
         many = ap suc (rest .many);
         declared = λ w i. ⊎-elim (λ (j : w ≡ one .sequence). rw j (one .declared)) (rest .declared w) i;
         apart = (λ u i e. d .0 (rw (sym (one .is) ∙ e) (rest .lead u i)), rest .apart);
-        lead = λ w i. ⊎-elim (λ (j : w ≡ one .sequence). inl (ap (setAfter anew r) j ∙ one .is)) (λ j. inr (rest .lead w j)) i }
+        lead = λ w i. ⊎-elim (λ (j : w ≡ one .sequence). inl (ap (setAfter anew r) j ∙ one .is)) (λ j. inr (rest .lead w j)) i;
+      }
 
   -- more sets than n give more than n sequences apart
   pub states-more : (n i : ℕ) (g : Found) → Through anew r m i g → n < length (g .sets) → MoreStates anew r m n
@@ -61,7 +62,8 @@ module _ (anew : Bool) (r : Pattern) (m : ℕ) where
         sequences = x .sequences;
         many = x .many ∙ length-take-le (suc n) (g .sets) l;
         declared = x .declared;
-        apart = x .apart }
+        apart = x .apart;
+      }
 
   -- ---- sequences apart lead to as many sets
   map-in : (ws : List (List ℕ)) (x : ℕ) → In x (list.map (setAfter anew r) ws) → (u : List ℕ) × In u ws × (x ≡ setAfter anew r u)
@@ -76,17 +78,19 @@ module _ (anew : Bool) (r : Pattern) (m : ℕ) where
   more-states-length n g t x =
       let sets : List ℕ = list.map (setAfter anew r) (x .sequences) in
       let l : length sets ≤ length (g .sets) = distinct-length sets (g .sets) (apart-distinct (x .sequences) (x .apart)) λ y i.
-          let u = map-in (x .sequences) y i in rw (u .2) (set-after-in anew r m g t (u .0) (x .declared (u .0) (u .1))) in
+      let u = map-in (x .sequences) y i in rw (u .2) (set-after-in anew r m g t (u .0) (x .declared (u .0) (u .1))) in
       let k : length sets ≡ suc n = length-map (x .sequences) (setAfter anew r) ∙ x .many in
       omega arith
 
   pub more-states : (ltb mostStates (length (statesOf anew r m .sets)) ≡ true) ↔ MoreStates anew r m mostStates
-  more-states =
-      ( λ h. states-more mostStates (ended .at) (statesOf anew r m) (ended .through) (ltb-true mostStates (length (statesOf anew r m .sets)) h)
-      , λ x. go x (ltb mostStates (length (statesOf anew r m .sets))) refl )
+  more-states = (
+    λ h. states-more mostStates (ended .at) (statesOf anew r m) (ended .through) (ltb-true mostStates (length (statesOf anew r m .sets)) h),
+    λ x. go x (ltb mostStates (length (statesOf anew r m .sets))) refl,
+  )
     where
       ended : Ended anew r m 0 (suc mostStates) (statesOf anew r m)
       ended = states-ended anew r m
+
       go : MoreStates anew r m mostStates → (u : Bool) → ltb mostStates (length (statesOf anew r m .sets)) ≡ u → u ≡ true
       go x true e = refl
       go x false e =

@@ -16,7 +16,6 @@ use Rattle.document.specs.Patterns.{Pattern}
 use Rattle.document.specs.Tokens.{lexemes, offsetOf}
 use Rattle.document.specs.Grammar.{Whole, Fault, FirstFault}
 use Rattle.document.specs.Reading.{Parsed, parse}
-use Rattle.document.specs.States.{MoreStates}
 use Rattle.document.specs.Property.{Property}
 use Rattle.document.specs.Translate.{anew, translate}
 use Rattle.document.specs.Demands.{tokensOf, Allowed, Means, RefusedFor, declarationsRefused, patternTooLong, faulty, statesExceeded, Demand2}
@@ -50,18 +49,21 @@ translated events text = from-declarations (declarations events) refl
         → (u : Bool) → ltb mostStates (length (statesFor d (t .pattern) .sets)) ≡ u → Translated events text (refuseIf u tooManyStates (taken (tableFor d t)))
     from-states d t c e true u = tooMany c e (ltb-true mostStates (length (statesFor d (t .pattern) .sets)) u)
     from-states d t c e false u = tabled c e (ltb-false mostStates (length (statesFor d (t .pattern) .sets)) u)
+
     from-pattern : (d : Declared) → Comes events text d → (a : Answer Parsed) → parse (d .events) text ≡ a
         → Translated events text (andThen a (λ t. refuseIf (ltb mostStates (length (statesFor d (t .pattern) .sets))) tooManyStates (taken (tableFor d t))))
     from-pattern d c (taken t) e = from-states d t c e (ltb mostStates (length (statesFor d (t .pattern) .sets))) refl
     from-pattern d c (refused q at) e = notRead c e
+
     from-text : (d : Declared) → declarations events ≡ taken d → (u : Bool) → ltb textBytes (length text) ≡ u
         → Translated events text (refuseIf u textTooLong (andThen (parse (d .events) text) (λ t.
-          refuseIf (ltb mostStates (length (statesFor d (t .pattern) .sets))) tooManyStates (taken (tableFor d t)))))
+        refuseIf (ltb mostStates (length (statesFor d (t .pattern) .sets))) tooManyStates (taken (tableFor d t)))))
     from-text d e true u = tooLong e (ltb-true textBytes (length text) u)
     from-text d e false u = from-pattern d (record { declares = e; short = ltb-false textBytes (length text) u }) (parse (d .events) text) refl
+
     from-declarations : (a : Answer Declared) → declarations events ≡ a
         → Translated events text (andThen a (λ d. refuseIf (ltb textBytes (length text)) textTooLong (andThen (parse (d .events) text) (λ t.
-          refuseIf (ltb mostStates (length (statesFor d (t .pattern) .sets))) tooManyStates (taken (tableFor d t))))))
+        refuseIf (ltb mostStates (length (statesFor d (t .pattern) .sets))) tooManyStates (taken (tableFor d t))))))
     from-declarations (taken d) e = from-text d e (ltb textBytes (length text)) refl
     from-declarations (refused q at) e = notDeclared e
 
@@ -119,6 +121,7 @@ module _ (readers : ReadersRight) where
     where
       same : {q : Refusal} {k : ℕ} → _≡_ {A = Answer Property} (refused q k) (refused r at) → RefusedFor events text q k → RefusedFor events text r at
       same {q} {k} i x = subst₂ (RefusedFor events text) (cc) (cc) x
+
       go : (a : Answer Property) → Translated events text a → a ≡ refused r at → RefusedFor events text r at
       go a (notDeclared e) i = same i (declarationsRefused e)
       go a (tooLong e l) i = same i (patternTooLong e l)
@@ -128,7 +131,7 @@ module _ (readers : ReadersRight) where
       go a (tooMany {d = d} {t = t} c e l) i =
           let read = readers .means events text d c t e in
           same i (statesExceeded (c .declares) (c .short) (read .0) (read .1)
-            (more-states anew (t .pattern) (length (d .events)) .0 (lt-ltb mostStates (length (statesFor d (t .pattern) .sets)) l)))
+          (more-states anew (t .pattern) (length (d .events)) .0 (lt-ltb mostStates (length (statesFor d (t .pattern) .sets)) l)))
       go a (tabled c e l) i = absurd (refused-taken (sym i))
 
   pub demand-two : Demand2

@@ -5,12 +5,12 @@
 use Prim.Native.Nat.{ℕ, zero, suc, _<_, _≤_}
 use native.Mathlib.Omega.{arith}
 use mathlib.Core.Path.{_≡_, refl, sym, ap, _∙_}
-use mathlib.Core.Logic.{_⊎_, inl, inr, ⊎-elim, _↔_}
+use mathlib.Core.Logic.{⊎-elim, _↔_}
 use mathlib.Core.Bool.{Bool, true, false, cond, not, _||_, _&&_, true≢false}
 use mathlib.Core.List.{List, [], _∷_, _++_, append-nil, append-assoc}
 use lib.Dec.{eqb}
 use lib.Bits.{bitAnd}
-use borrow.Author.Tests.{eq-eqb, ne-eqb, eqb-true, eqb-false, not-true}
+use borrow.Author.Tests.{ne-eqb, eqb-true, eqb-false, not-true}
 use Rattle.document.specs.Limits.{mostNames}
 use Rattle.document.specs.Patterns.{Pattern, Word, Begins, TotalMatching, match, fail, undecided}
 use Rattle.document.specs.Positions.{Stops, StopsAt, holds, nullable, lasts, next, named, move, startSet, setFrom, setAfter, verdictOf}
@@ -18,7 +18,7 @@ use Rattle.words.specs.Sets.{Has, none-has, has-and, and-has, member, em
 use Rattle.words.specs.Numbers.{Numbered, stops-lie, lasts-lie}
 use Rattle.words.specs.Readings.{clash, right-nil, nullable-word, Ends, nowhere, word-ends, Stopped, unread, begins-stopped, begins-empty, stops-begins}
 use Rattle.words.specs.Readings as readings
-use Rattle.words.specs.Steps.{stops-nonempty, Came, begins, goes-on, Steps, stops-steps}
+use Rattle.words.specs.Steps.{stops-nonempty, Came, begins, goes-on, stops-steps}
 use Rattle.words.specs.StepsBack.{begins-stops, stops-word, goes-on-stops}
 use Rattle.words.specs.Moves.{Moves, move-has, has-move}
 
@@ -52,6 +52,7 @@ module _ (r : Pattern) (hi : ℕ) (n : Numbered r 0 hi) where
       sound : (p : ℕ) → p ≡ 0 → StopsAt r p []
       sound zero h = refl
       sound (suc p) h = absurd (omega arith)
+
       full : (p : ℕ) → StopsAt r p [] → Has startSet p
       full zero h = has-start
       full (suc p) h = absurd (stops-nonempty r (suc p) h)
@@ -63,12 +64,14 @@ module _ (r : Pattern) (hi : ℕ) (n : Numbered r 0 hi) where
       sound q h = ⊎-elim
           (λ m. stops-at-next (m .next .from) q e w (is .sound (m .next .from) (m .next .held)) (m .next .comes) (m .names))
           (λ x. absurd (true≢false (sym (x .0)))) (move-has false r s e q h)
+
       from : (q : ℕ) → Came r w q → Has (named r e) q → Moves r s e q
       from q (begins i f) k = record { next = record { from = 0; below = omega arith; held = is .full 0 i; comes = f }; names = k }
       from q (goes-on zero t f) k = let l = stops-lie r 0 hi n zero w t in absurd (omega arith)
       from q (goes-on (suc p) t f) k =
           let l = stops-lie r 0 hi n (suc p) w t in
           record { next = record { from = suc p; below = omega arith; held = is .full (suc p) t; comes = f }; names = k }
+
       full : (q : ℕ) → StopsAt r q (w ++ (e ∷ [])) → Has (move false r s e) q
       full zero h = absurd (clash (sym (right-nil w (e ∷ []) (sym h))))
       full (suc q) h =
@@ -111,9 +114,9 @@ module _ (r : Pattern) (hi : ℕ) (n : Numbered r 0 hi) where
     accepts-word h = ⊎-elim
         (λ x. let i : w ≡ [] = is .sound 0 (and-left (holds s 0) (nullable r) x) in rw i (nullable-word r (and-right (holds s 0) (nullable r) x)))
         (λ x.
-          let g = member (bitAnd s (lasts r)) (eqb-false (bitAnd s (lasts r)) 0 (not-true (eqb (bitAnd s (lasts r)) 0) x)) in
-          let b = and-has s (lasts r) (g .0) (g .1) in
-          stopped (g .0) (is .sound (g .0) (b .0)) (b .1))
+        let g = member (bitAnd s (lasts r)) (eqb-false (bitAnd s (lasts r)) 0 (not-true (eqb (bitAnd s (lasts r)) 0) x)) in
+        let b = and-has s (lasts r) (g .0) (g .1) in
+        stopped (g .0) (is .sound (g .0) (b .0)) (b .1))
         (or-cases (holds s 0 && nullable r) (not (eqb (bitAnd s (lasts r)) 0)) h)
       where
         stopped : (p : ℕ) → StopsAt r p w → Has (lasts r) p → Word r w
@@ -136,17 +139,20 @@ module _ (r : Pattern) (hi : ℕ) (n : Numbered r 0 hi) where
       where
         go : (t : Bool) → accepts ≡ t → (u : Bool) → eqb s 0 ≡ u → TotalMatching r w (cond t match (cond u fail undecided))
         go true e u f = record {
-            verdict = omega arith;
-            matches = (λ z. accepts-word e, λ x. refl);
-            fails = (λ (z : _≡_ {A = ℕ} 1 2). absurd (omega arith), λ b. absurd (b (record { rest = []; whole = rw append-nil (accepts-word e) }))) }
+          verdict = omega arith;
+          matches = (λ z. accepts-word e, λ x. refl);
+          fails = (λ (z : _≡_ {A = ℕ} 1 2). absurd (omega arith), λ b. absurd (b (record { rest = []; whole = rw append-nil (accepts-word e) })));
+        }
         go false e true f = record {
-            verdict = omega arith;
-            matches = (λ (z : _≡_ {A = ℕ} 2 1). absurd (omega arith), λ x. absurd (true≢false (sym (word-accepts x) ∙ e)));
-            fails = (λ z b. begins-set b (eqb-true s 0 f), λ b. refl) }
+          verdict = omega arith;
+          matches = (λ (z : _≡_ {A = ℕ} 2 1). absurd (omega arith), λ x. absurd (true≢false (sym (word-accepts x) ∙ e)));
+          fails = (λ z b. begins-set b (eqb-true s 0 f), λ b. refl);
+        }
         go false e false f = record {
-            verdict = omega arith;
-            matches = (λ (z : _≡_ {A = ℕ} 0 1). absurd (omega arith), λ x. absurd (true≢false (sym (word-accepts x) ∙ e)));
-            fails = (λ (z : _≡_ {A = ℕ} 0 2). absurd (omega arith), λ b. absurd (eqb-false s 0 f (set-begins b))) }
+          verdict = omega arith;
+          matches = (λ (z : _≡_ {A = ℕ} 0 1). absurd (omega arith), λ x. absurd (true≢false (sym (word-accepts x) ∙ e)));
+          fails = (λ (z : _≡_ {A = ℕ} 0 2). absurd (omega arith), λ b. absurd (eqb-false s 0 f (set-begins b)));
+        }
 
   -- ---- the same, of the set that is worked out
   module _ (few : hi ≤ mostNames) (w : List ℕ) where

@@ -2,15 +2,13 @@
 -- table that the translator makes of declarations and a pattern that the grammar and the limits allow. The verdicts asked for
 -- do not bear on states, transitions and verdicts.
 -- Assumes nothing.
-use Prim.Native.Nat.{ℕ, _<_, _≤_}
-use native.Mathlib.Omega.{arith}
+use Prim.Native.Nat.{ℕ, _≤_}
 use mathlib.Core.Path.{_≡_, refl, ap}
-use mathlib.Core.Logic.{_↔_}
 use mathlib.Core.Bool.{Bool, true, false}
 use mathlib.Core.List.{List}
 use lib.ListN.{length, take}
 use lib.Dec.{ltb}
-use borrow.Author.Tests.{ltb-true, ltb-false}
+use borrow.Author.Tests.{ltb-false}
 use Rattle.document.specs.Limits.{mostNames, mostStates}
 use Rattle.document.specs.Declarations.{Declared}
 use Rattle.document.specs.Patterns.{Pattern, TotalMatching, Among}
@@ -74,7 +72,8 @@ allowed-means {events} {text} a =
       asks = refl;
       usable = table-in-range d t fits few (asks-some (d .events) (a .whole .wants)) (asks-few (d .events) (a .whole .wants));
       verdicts = λ w among. table-total d t fits few (a .whole .names) (reads-numbered (d .events) (a .whole .reads))
-        (names-few (d .events) (tokensOf text) (a .pattern) (a .asked) (a .whole) (a .faultless)) w among }
+          (names-few (d .events) (tokensOf text) (a .pattern) (a .asked) (a .whole) (a .faultless)) w among;
+    }
 
 -- ---- tables that differ in the verdicts asked for only
 pub record SameTable (p q : Property) : Type 0 where
@@ -85,6 +84,7 @@ pub record SameTable (p q : Property) : Type 0 where
 pub asked-same-table : (d : Declared) (t u : Parsed) → t .pattern ≡ u .pattern → SameTable (tableFor d t) (tableFor d u)
 unfolding propertyOf
 asked-same-table d t u h = record {
-    states = ap (λ (r : Pattern). length (statesFor d r .sets)) h;
-    next = ap (λ (r : Pattern). propertyOf d (record { pattern = r; asked = 0 }) (statesFor d r) .next) h;
-    verdicts = ap (λ (r : Pattern). propertyOf d (record { pattern = r; asked = 0 }) (statesFor d r) .verdicts) h }
+  states = ap (λ (r : Pattern). length (statesFor d r .sets)) h;
+  next = ap (λ (r : Pattern). propertyOf d (record { pattern = r; asked = 0 }) (statesFor d r) .next) h;
+  verdicts = ap (λ (r : Pattern). propertyOf d (record { pattern = r; asked = 0 }) (statesFor d r) .verdicts) h;
+}

@@ -3,10 +3,10 @@
 -- Assumes nothing.
 use Prim.Native.Nat.{ℕ, zero, suc, _+_, _<_, _≤_}
 use native.Mathlib.Omega.{arith}
-use mathlib.Core.Path.{_≡_, refl, sym, ap, ap₂, _∙_}
+use mathlib.Core.Path.{_≡_, refl, ap, ap₂, _∙_}
 use mathlib.Core.Bool.{Bool, true, false, not}
 use mathlib.Core.List.{List, [], _∷_, _++_}
-use lib.ListN.{length, getD, take, drop, length-append}
+use lib.ListN.{length, getD, take}
 use lib.Dec.{T, eqb, ltb}
 use borrow.Author.Tests.{eqb-true, ltb-true, ltb-false}
 use Rattle.document.specs.Lists.{consIf, keepIf, equal}
@@ -132,10 +132,12 @@ name-after (x ∷ ts) n h = go (isEventName x) refl n (rw (count-cons x ts) at h
   where
     later : (n k : ℕ) → n ≤ tally (isEventName x) + k → NameAfter k ts → NameAfter n (x ∷ ts)
     later n k l g = record {
-        place = suc (g .place);
-        inside = let i = g .inside in omega arith;
-        is = g .is;
-        others = rw (count-cons x (take (g .place) ts)) (let o = g .others in omega arith) }
+      place = suc (g .place);
+      inside = let i = g .inside in omega arith;
+      is = g .is;
+      others = rw (count-cons x (take (g .place) ts)) (let o = g .others in omega arith);
+    }
+
     go : (t : Bool) → isEventName x ≡ t → (n : ℕ) → n < tally (isEventName x) + count ts → ((k : ℕ) → k < count ts → NameAfter k ts) → NameAfter n (x ∷ ts)
     go true e zero l ih = record { place = 0; inside = omega arith; is = rw e tt; others = omega arith }
     go true e (suc n) l ih =
@@ -153,8 +155,10 @@ names-few declared ts r a x faultless = go (ltb mostNames (x .names)) refl
   where
     rest : List Token
     rest = x .body ++ x .asks
+
     fault : NameAfter mostNames rest → (i : ℕ) × Fault declared ts i tooManyNames
     fault g = (suc (suc (g .place)), rw (x .is) (oneTooMany {i = suc (suc (g .place))} (omega arith) (let l = g .inside in omega arith) (g .is) (g .others)))
+
     go : (t : Bool) → ltb mostNames (x .names) ≡ t → x .names ≤ mostNames
     go false e = ltb-false mostNames (x .names) e
     go true e =

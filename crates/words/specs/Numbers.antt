@@ -1,15 +1,14 @@
 -- Document 01, "The table": "Number the event names of the pattern from the left". A pattern read by the grammar is numbered
 -- so, and its sets hold its own numbers only; so two parts of a pattern share no number.
 -- Assumes nothing.
-use Prim.Native.Nat.{ℕ, zero, suc, _<_, _≤_}
+use Prim.Native.Nat.{ℕ, _<_, _≤_}
 use native.Mathlib.Omega.{arith}
-use mathlib.Core.Path.{_≡_, refl}
-use mathlib.Core.Logic.{_⊎_, inl, inr, ⊎-elim}
+use mathlib.Core.Logic.{⊎-elim}
 use mathlib.Core.Bool.{cond}
 use mathlib.Core.List.{List}
 use lib.Dec.{eqb}
 use lib.Bits.{bitOr}
-use Rattle.document.specs.Patterns.{Pattern, epsilon, name, alternative, sequence, star, plus, Then}
+use Rattle.document.specs.Patterns.{Pattern, epsilon, name, alternative, sequence, star, plus}
 use Rattle.document.specs.Tokens.{Token}
 use Rattle.document.specs.Grammar.{Kind, Reads, one-sequence, either, one-repetition, beside, one-atom, starred, plussed, event, empty, grouped}
 use Rattle.document.specs.Positions.{Stops, holds, nullable, firsts, lasts, follows, named}
@@ -121,11 +120,11 @@ follows-lie (alternative a b) lo hi n p q h = ⊎-elim
     (λ x. both-right a b lo hi n p q (follows-lie b (n .0) hi (n .1 .1) p q x)) (or-has (follows a p) (follows b p) q h)
 follows-lie (sequence a b) lo hi n p q h = ⊎-elim
     (λ z. ⊎-elim
-      (λ x. both-left a b lo hi n p q (follows-lie a lo (n .0) (n .1 .0) p q x))
-      (λ x. both-right a b lo hi n p q (follows-lie b (n .0) hi (n .1 .1) p q x)) (or-has (follows a p) (follows b p) q z))
+    (λ x. both-left a b lo hi n p q (follows-lie a lo (n .0) (n .1 .0) p q x))
+    (λ x. both-right a b lo hi n p q (follows-lie b (n .0) hi (n .1 .1) p q x)) (or-has (follows a p) (follows b p) q z))
     (λ z.
-      let x = guarded-has (holds (lasts a) p) (firsts b) q z in
-      (lies-left a b lo hi n p (lasts-lie a lo (n .0) (n .1 .0) p (x .0)), lies-right a b lo hi n q (firsts-lie b (n .0) hi (n .1 .1) q (x .1))))
+    let x = guarded-has (holds (lasts a) p) (firsts b) q z in
+    (lies-left a b lo hi n p (lasts-lie a lo (n .0) (n .1 .0) p (x .0)), lies-right a b lo hi n q (firsts-lie b (n .0) hi (n .1 .1) q (x .1))))
     (or-has _ (cond (holds (lasts a) p) (firsts b) 0) q h)
 follows-lie (star a) lo hi n p q h = ⊎-elim (λ x. follows-lie a lo hi n p q x)
     (λ z. let x = guarded-has (holds (lasts a) p) (firsts a) q z in (lasts-lie a lo hi n p (x .0), firsts-lie a lo hi n q (x .1)))

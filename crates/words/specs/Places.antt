@@ -9,7 +9,7 @@ use mathlib.Core.Bool.{Bool, true, false}
 use mathlib.Core.List.{List, [], _∷_, _++_, append-nil, append-assoc}
 use lib.ListN.{length, getD, length-append, List·getD-append}
 use lib.Dec.{eqb, ltb}
-use borrow.Author.Tests.{eq-eqb, ne-eqb, eqb-true, eqb-false, ltb-true, ltb-false, lt-ltb, le-ltb}
+use borrow.Author.Tests.{eq-eqb, ne-eqb, eqb-true, eqb-false, ltb-true, ltb-false}
 use Rattle.document.specs.Lists.{In}
 use Rattle.document.specs.States.{stateOf, find}
 
@@ -84,9 +84,10 @@ in-append-right x (y ∷ a) b h = inr (in-append-right x a b h)
 
 pub distinct-append-one : (l : List ℕ) (s : ℕ) → Distinct l → (In s l → ⊥) → Distinct (l ++ (s ∷ []))
 distinct-append-one [] s d h = (λ i. i, tt)
-distinct-append-one (x ∷ l) s d h =
-    ( λ i. ⊎-elim (d .0) (⊎-elim (λ (j : x ≡ s). h (inl (sym j))) (λ j. j)) (in-append x l (s ∷ []) i)
-    , distinct-append-one l s (d .1) (λ i. h (inr i)) )
+distinct-append-one (x ∷ l) s d h = (
+  λ i. ⊎-elim (d .0) (⊎-elim (λ (j : x ≡ s). h (inl (sym j))) (λ j. j)) (in-append x l (s ∷ []) i),
+  distinct-append-one l s (d .1) (λ i. h (inr i)),
+)
 
 -- ---- a list that has grown at its end
 pub record Extends (old new : List ℕ) : Type 0 where
@@ -121,12 +122,15 @@ find-finds s found d = go (ltb (stateOf s found) (length found)) refl
   where
     known : stateOf s found < length found → Finds s found found
     known h = record { extends = extends-itself found; distinct = d; has = rw (state-at s found h) at (at-in found (stateOf s found) h); only = λ x i. inl i }
+
     new : (In s found → ⊥) → Finds s found (found ++ (s ∷ []))
     new h = record {
-        extends = record { added = s ∷ []; is = refl };
-        distinct = distinct-append-one found s d h;
-        has = in-append-right s found (s ∷ []) (inl refl);
-        only = λ x i. ⊎-elim inl (⊎-elim inr (λ j. absurd j)) (in-append x found (s ∷ []) i) }
+      extends = record { added = s ∷ []; is = refl };
+      distinct = distinct-append-one found s d h;
+      has = in-append-right s found (s ∷ []) (inl refl);
+      only = λ x i. ⊎-elim inl (⊎-elim inr (λ j. absurd j)) (in-append x found (s ∷ []) i);
+    }
+
     go : (t : Bool) → ltb (stateOf s found) (length found) ≡ t → Finds s found (elim t [ true ↦ found | false ↦ found ++ (s ∷ []) ])
     go true e = known (ltb-true _ _ e)
     go false e = let l = ltb-false (stateOf s found) (length found) e in new (λ i. let k = in-state s found i in omega arith)

@@ -5,7 +5,6 @@ use Prim.Native.Nat.{ℕ, zero, suc, _^_, _<_, _≤_}
 use native.Mathlib.Omega.{arith}
 use mathlib.Core.Path.{_≡_, refl, ap}
 use mathlib.Core.Bool.{Bool, true, false, _&&_}
-use mathlib.Core.List.{List, [], _∷_}
 use lib.ListN.{length, getD}
 use lib.Dec.{leb, ltb, eqb}
 use borrow.Author.Tests.{le-leb, lt-ltb, leb-true, ltb-true, eqb-true, eqb-false}
@@ -78,7 +77,8 @@ each-holds a b c d e f h =
       third = and-right (a && b) c three;
       fourth = and-right (a && b && c) d four;
       fifth = and-right (a && b && c && d) e five;
-      sixth = and-right (a && b && c && d && e) f h }
+      sixth = and-right (a && b && c && d && e) f h;
+    }
 
 between : (a x b : ℕ) → a ≤ x → x ≤ b → leb a x && leb x b ≡ true
 between a x b l h = and-both (leb a x) (leb x b) (le-leb a x l) (le-leb x b h)
@@ -115,8 +115,8 @@ module _ (p : Property) where
       (between 1 (p .asked) 3 (h .someAsked) (h .fewAsked))
       (every-below (p .events) setFits (λ e l. lt-ltb (setOf p e) (2 ^ (p .parameters)) (h .sets e l)))
       (every-below (p .states) stateFits (λ s l.
-        and-both (leb (verdict p s) 2) (everyBelow (p .events) (entryFits s)) (le-leb (verdict p s) 2 (h .verdicts s l))
-        (every-below (p .events) (entryFits s) (λ e b. lt-ltb (nextState p s e) (p .states) (h .next s e l b)))))
+      and-both (leb (verdict p s) 2) (everyBelow (p .events) (entryFits s)) (le-leb (verdict p s) 2 (h .verdicts s l))
+      (every-below (p .events) (entryFits s) (λ e b. lt-ltb (nextState p s e) (p .states) (h .next s e l b)))))
 
   pub in-range-range : inRange p ≡ true → InRange p
   unfolding inRange
@@ -134,4 +134,5 @@ module _ (p : Property) where
         sets = λ e l. ltb-true (setOf p e) (2 ^ (p .parameters)) (below-every (p .events) setFits (x .fifth) e l);
         verdicts = λ s l. leb-true (verdict p s) 2 (and-left (leb (verdict p s) 2) (everyBelow (p .events) (entryFits s)) (state s l));
         next = λ s e l b. ltb-true (nextState p s e) (p .states)
-          (below-every (p .events) (entryFits s) (and-right (leb (verdict p s) 2) (everyBelow (p .events) (entryFits s)) (state s l)) e b) }
+            (below-every (p .events) (entryFits s) (and-right (leb (verdict p s) 2) (everyBelow (p .events) (entryFits s)) (state s l)) e b);
+      }

@@ -5,8 +5,8 @@
 use Prim.Native.Nat.{ℕ}
 use native.Mathlib.Omega.{arith}
 use mathlib.Core.Path.{_≡_, refl, sym, ap, _∙_}
-use mathlib.Core.Logic.{_⊎_, inl, inr, ⊎-elim}
-use mathlib.Core.Bool.{true, _||_, _&&_}
+use mathlib.Core.Logic.{inl, inr, ⊎-elim}
+use mathlib.Core.Bool.{true}
 use mathlib.Core.List.{List, [], _∷_, _++_, append-assoc, append-nil}
 use Rattle.document.specs.Patterns.{Pattern, epsilon, name, alternative, sequence, star, plus, Many, none, more, Then, Word, Begins}
 use Rattle.document.specs.Positions.{Stops, nullable, lasts}
@@ -36,6 +36,7 @@ parted (y ∷ u) v (x ∷ w) rest h = go (parted u v w rest (cc))
   where
     same : y ≡ x
     same = cc
+
     go : Parted u v w rest → Parted (y ∷ u) v (x ∷ w) rest
     go (within t i) = within t (cc)
     go (beyond z t i j) = beyond z t (cc) j
@@ -60,9 +61,12 @@ nullable-word epsilon h = refl
 nullable-word (name p e) h = cc
 nullable-word (alternative a b) h = ⊎-elim (λ x. inl (nullable-word a x)) (λ x. inr (nullable-word b x)) (or-cases (nullable a) (nullable b) h)
 nullable-word (sequence a b) h = record {
-    front = []; back = []; is = refl;
-    left = nullable-word a (and-left (nullable a) (nullable b) h);
-    right = nullable-word b (and-right (nullable a) (nullable b) h) }
+  front = [];
+  back = [];
+  is = refl;
+  left = nullable-word a (and-left (nullable a) (nullable b) h);
+  right = nullable-word b (and-right (nullable a) (nullable b) h);
+}
 nullable-word (star a) h = none
 nullable-word (plus a) h = record { front = []; back = []; is = refl; left = nullable-word a h; right = none }
 
@@ -80,6 +84,7 @@ many-ends a l (more {u = u} {v = v} x m) ends = go (many-ends a v m ends) (ends 
     alone : v ≡ [] → Ends a u → Ends (star a) (u ++ v)
     alone i (nowhere j k) = nowhere (rw (i, j) refl) refl
     alone i (at p s k) = at p (record { front = []; back = u; is = rw i (append-nil u); left = none; right = s }) k
+
     go : Ends (star a) v → Ends a u → Ends (star a) (u ++ v)
     go (nowhere i j) e = alone i e
     go (at p s k) e = at p (record { front = u ++ s .front; back = s .back; is = ap (λ (t : List ℕ). u ++ t) (s .is) ∙ sym (append-assoc u (s .front) (s .back)); left = more x (s .left); right = s .right }) k
@@ -93,6 +98,7 @@ word-ends (alternative a b) w h = ⊎-elim (λ x. left (word-ends a w x)) (λ x.
     left : Ends a w → Ends (alternative a b) w
     left (nowhere i j) = nowhere i (or-left (nullable a) (nullable b) j)
     left (at p s k) = at p (inl s) (has-or-left (lasts a) (lasts b) p k)
+
     right : Ends b w → Ends (alternative a b) w
     right (nowhere i j) = nowhere i (or-right (nullable a) (nullable b) j)
     right (at p s k) = at p (inr s) (has-or-right (lasts a) (lasts b) p k)
@@ -108,6 +114,7 @@ word-ends (plus a) w h = go (many-ends a (h .back) (h .right) (word-ends a)) (wo
     alone : h .back ≡ [] → Ends a (h .front) → Ends (plus a) w
     alone i (nowhere j k) = nowhere (h .is ∙ rw (i, j) refl) k
     alone i (at p s k) = at p (record { front = []; back = h .front; is = h .is ∙ rw i (append-nil (h .front)); left = none; right = s }) k
+
     go : Ends (star a) (h .back) → Ends a (h .front) → Ends (plus a) w
     go (nowhere i j) e = alone i e
     go (at p s k) e = at p (record { front = h .front ++ s .front; back = s .back; is = h .is ∙ ap (λ (t : List ℕ). h .front ++ t) (s .is) ∙ sym (append-assoc (h .front) (s .front) (s .back)); left = more (h .left) (s .left); right = s .right }) k
@@ -125,9 +132,11 @@ many-stopped a l (more {u = u} {v = v} x m) ih w rest h = go (parted u v w rest 
     one : Stopped a w → Stopped (star a) w
     one (unread i) = unread i
     one (at p s) = at p (record { front = []; back = w; is = refl; left = none; right = s })
+
     later : (y : ℕ) (t : List ℕ) → w ≡ u ++ (y ∷ t) → Stopped (star a) (y ∷ t) → Stopped (star a) w
     later y t i (unread j) = absurd (clash (sym j))
     later y t i (at p s) = at p (record { front = u ++ s .front; back = s .back; is = i ∙ ap (λ (k : List ℕ). u ++ k) (s .is) ∙ sym (append-assoc u (s .front) (s .back)); left = more x (s .left); right = s .right })
+
     go : Parted u v w rest → ((w′ rest′ : List ℕ) → u ≡ w′ ++ rest′ → Stopped a w′) → ((w′ rest′ : List ℕ) → v ≡ w′ ++ rest′ → Stopped (star a) w′) → Stopped (star a) w
     go (within t i) f g = one (f w t i)
     go (beyond y t i j) f g = later y t i (g (y ∷ t) rest j)
@@ -143,6 +152,7 @@ word-stopped (name p e) l h w rest i = go w (sym h ∙ i)
       where
         tail : [] ≡ w ++ rest
         tail = cc
+
         one : x ∷ w ≡ e ∷ []
         one = let z = left-nil w rest tail in cc
 word-stopped (alternative a b) l h w rest i = ⊎-elim (λ x. left (word-stopped a l x w rest i)) (λ x. right (word-stopped b l x w rest i)) h
@@ -150,6 +160,7 @@ word-stopped (alternative a b) l h w rest i = ⊎-elim (λ x. left (word-stopped
     left : Stopped a w → Stopped (alternative a b) w
     left (unread j) = unread j
     left (at p s) = at p (inl s)
+
     right : Stopped b w → Stopped (alternative a b) w
     right (unread j) = unread j
     right (at p s) = at p (inr s)
@@ -159,9 +170,11 @@ word-stopped (sequence a b) l h w rest i =
     one : Stopped a w → Stopped (sequence a b) w
     one (unread j) = unread j
     one (at p s) = at p (inl s)
+
     later : (y : ℕ) (t : List ℕ) → w ≡ h .front ++ (y ∷ t) → Stopped b (y ∷ t) → Stopped (sequence a b) w
     later y t j (unread k) = absurd (clash (sym k))
     later y t j (at p s) = at p (inr (record { front = h .front; back = y ∷ t; is = j; left = h .left; right = s }))
+
     go : Parted (h .front) (h .back) w rest → ((w′ rest′ : List ℕ) → h .front ≡ w′ ++ rest′ → Stopped a w′)
         → ((w′ rest′ : List ℕ) → h .back ≡ w′ ++ rest′ → Stopped b w′) → Stopped (sequence a b) w
     go (within t j) f g = one (f w t j)
@@ -202,12 +215,12 @@ stops-begins (alternative a b) p w h = ⊎-elim
     (λ x. let g = stops-begins b p w x in record { rest = g .rest; whole = inr (g .whole) }) h
 stops-begins (sequence a b) p w h = ⊎-elim
     (λ x.
-      let g = stops-begins a p w x in
-      let y = begins-empty b in
-      record { rest = g .rest ++ y .rest; whole = record { front = w ++ g .rest; back = y .rest; is = sym (append-assoc w (g .rest) (y .rest)); left = g .whole; right = y .whole } })
+    let g = stops-begins a p w x in
+    let y = begins-empty b in
+    record { rest = g .rest ++ y .rest; whole = record { front = w ++ g .rest; back = y .rest; is = sym (append-assoc w (g .rest) (y .rest)); left = g .whole; right = y .whole } })
     (λ x.
-      let g = stops-begins b p (x .back) (x .right) in
-      record { rest = g .rest; whole = record { front = x .front; back = x .back ++ g .rest; is = on w (x .front) (x .back) (g .rest) (x .is); left = x .left; right = g .whole } }) h
+    let g = stops-begins b p (x .back) (x .right) in
+    record { rest = g .rest; whole = record { front = x .front; back = x .back ++ g .rest; is = on w (x .front) (x .back) (g .rest) (x .is); left = x .left; right = g .whole } }) h
 stops-begins (star a) p w h =
     let g = stops-begins a p (h .back) (h .right) in
     record { rest = g .rest; whole = rw (on w (h .front) (h .back) (g .rest) (h .is)) (many-append (Word a) (h .front) (h .back ++ g .rest) (h .left) (many-one (Word a) (h .back ++ g .rest) (g .whole))) }

@@ -1,7 +1,7 @@
 -- Document 01, "The table": sets of numbers as the bits of a number. What a set holds, for each way in which sets are made;
 -- a set is 0 exactly where it holds nothing.
 -- Assumes nothing.
-use Prim.Native.Nat.{ℕ, zero, suc, _+_, _-_, _*_, _/_, _%_, _^_, _<_, _≤_}
+use Prim.Native.Nat.{ℕ, zero, suc, _+_, _-_, _/_, _%_, _^_, _<_, _≤_}
 use native.Mathlib.Omega.{arith}
 use native.Mathlib.Nat.{mod-lt, zero-lt-suc, pow-suc, mul-mod-left, div-eq-of-lt, zero-div}
 use mathlib.Core.Path.{_≡_, refl, sym, ap, _∙_}
@@ -10,7 +10,7 @@ use mathlib.Core.Bool.{Bool, true, false, cond, _||_, _&&_, true≢false}
 use lib.Dec.{eqb, ltb}
 use lib.Bits.{bitOr, bitAnd, or-shr, or-mod, and-shr, and-mod}
 use lib.Pow.{pow-add, pow-lt, shl-shr, shr-shr}
-use borrow.Author.Tests.{eq-eqb, eqb-true, eqb-false, ltb-true, ltb-false}
+use borrow.Author.Tests.{eqb-true, eqb-false, ltb-true, ltb-false}
 use Rattle.document.specs.Positions.{holds}
 
 -- the set s holds the number p

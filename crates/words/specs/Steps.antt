@@ -2,9 +2,9 @@
 -- next after where the reading had stopped before it, or can begin. No law here asks how the names are numbered.
 -- Assumes nothing.
 use Prim.Native.Nat.{ℕ, _^_}
-use mathlib.Core.Path.{_≡_, refl, sym, ap, _∙_}
-use mathlib.Core.Logic.{_⊎_, inl, inr, ⊎-elim}
-use mathlib.Core.Bool.{true, cond}
+use mathlib.Core.Path.{_≡_, refl, sym, _∙_}
+use mathlib.Core.Logic.{inl, inr, ⊎-elim}
+use mathlib.Core.Bool.{cond}
 use mathlib.Core.List.{List, [], _∷_, _++_, append-nil}
 use lib.Bits.{bitOr}
 use lib.Dec.{eqb}
@@ -26,6 +26,7 @@ end-parted (x ∷ u) v (y ∷ w) e h = go (end-parted u v w e (cc))
   where
     same : x ≡ y
     same = cc
+
     go : EndParted u v w e → EndParted (x ∷ u) v (y ∷ w) e
     go (nothing i) = nothing i
     go (something t i j) = something t i (cc)
@@ -70,9 +71,11 @@ many-came a q e l w x i ih = go (end-parted (x .front) (x .back) w e (sym i ∙ 
     link : Ends (star a) w → Has (firsts a) q → Came (star a) w q
     link (nowhere j k) f = begins j f
     link (at p s k) f = goes-on p s (has-or-right (follows a p) (cond (holds (lasts a) p) (firsts a) 0) q (has-guarded (holds (lasts a) p) (firsts a) q k f))
+
     came : (t : List ℕ) → w ≡ x .front ++ t → Came a t q → Came (star a) w q
     came t k (begins j f) = link (word-ends (star a) w (rw (k, j, append-nil) (x .left))) f
     came t k (goes-on p s f) = goes-on p (record { front = x .front; back = t; is = k; left = x .left; right = s }) (has-or-left (follows a p) _ q f)
+
     go : EndParted (x .front) (x .back) w e → Steps (star a) w e q
     go (nothing j) = absurd (stops-nonempty a q (rw j at (x .right)))
     go (something t j k) = let g = ih t (x .back) (x .right) j in record { came = came t k (g .came); names = g .names }
@@ -90,11 +93,14 @@ stops-steps (alternative a b) q e l w h i = ⊎-elim (λ x. left (stops-steps a 
     came-left : Came a w q → Came (alternative a b) w q
     came-left (begins j f) = begins j (has-or-left (firsts a) (firsts b) q f)
     came-left (goes-on p s f) = goes-on p (inl s) (has-or-left (follows a p) (follows b p) q f)
+
     came-right : Came b w q → Came (alternative a b) w q
     came-right (begins j f) = begins j (has-or-right (firsts a) (firsts b) q f)
     came-right (goes-on p s f) = goes-on p (inr s) (has-or-right (follows a p) (follows b p) q f)
+
     left : Steps a w e q → Steps (alternative a b) w e q
     left g = record { came = came-left (g .came); names = has-or-left (named a e) (named b e) q (g .names) }
+
     right : Steps b w e q → Steps (alternative a b) w e q
     right g = record { came = came-right (g .came); names = has-or-right (named a e) (named b e) q (g .names) }
 stops-steps (sequence a b) q e l w h i = ⊎-elim
@@ -104,14 +110,18 @@ stops-steps (sequence a b) q e l w h i = ⊎-elim
     came-left : Came a w q → Came (sequence a b) w q
     came-left (begins j f) = begins j (has-with-right (nullable a) (firsts a) (firsts b) q (inl f))
     came-left (goes-on p s f) = goes-on p (inl s) (follows-left a b p q f)
+
     left : Steps a w e q → Steps (sequence a b) w e q
     left g = record { came = came-left (g .came); names = has-or-left (named a e) (named b e) q (g .names) }
+
     link : Ends a w → Has (firsts b) q → Came (sequence a b) w q
     link (nowhere j k) f = begins j (has-with-right (nullable a) (firsts a) (firsts b) q (inr (k, f)))
     link (at p s k) f = goes-on p (inl s) (follows-link a b p q k f)
+
     came-right : (x : Then (Word a) (Stops b q) l) (t : List ℕ) → w ≡ x .front ++ t → Came b t q → Came (sequence a b) w q
     came-right x t k (begins j f) = link (word-ends a w (rw (k, j, append-nil) (x .left))) f
     came-right x t k (goes-on p s f) = goes-on p (inr (record { front = x .front; back = t; is = k; left = x .left; right = s })) (follows-right a b p q f)
+
     right : (x : Then (Word a) (Stops b q) l) → EndParted (x .front) (x .back) w e → ((t : List ℕ) → x .back ≡ t ++ (e ∷ []) → Steps b t e q) → Steps (sequence a b) w e q
     right x (nothing j) ih = absurd (stops-nonempty b q (rw j at (x .right)))
     right x (something t j k) ih = let g = ih t j in record { came = came-right x t k (g .came); names = has-or-right (named a e) (named b e) q (g .names) }
@@ -121,5 +131,6 @@ stops-steps (plus a) q e l w h i = go (many-came a q e l w h i (λ t back s j. s
     came : Came (star a) w q → Came (plus a) w q
     came (begins j f) = begins j f
     came (goes-on p s f) = goes-on p s f
+
     go : Steps (star a) w e q → Steps (plus a) w e q
     go g = record { came = came (g .came); names = g .names }

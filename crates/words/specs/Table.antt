@@ -82,22 +82,23 @@ module _ (anew : Bool) (d : Declared) (t : Parsed) (g : Found) (fits : Fits d)
       let f : n ≤ mostEvents = fits .fewEvents in
       let z : length (take n l) ≡ n = length-take-le n l (rw tabulate-length f) in
       ext-getD 0 (take n l) (d .sets) (z ∙ sym (fits .setsLong)) (λ i h.
-        getD-take n l i 0 (omega arith) ∙ tabulate-at mostEvents (λ e. getD (d .sets) e 0) i 0 (omega arith))
+      getD-take n l i 0 (omega arith) ∙ tabulate-at mostEvents (λ e. getD (d .sets) e 0) i 0 (omega arith))
 
   -- refusal 11 is never given to it
   pub in-range : 1 ≤ t .asked → t .asked ≤ 3 → inRange (propertyOf d t g) ≡ true
   unfolding propertyOf
   in-range low high = range-in-range (propertyOf d t g) (record {
-      fewParameters = fits .fewParameters;
-      someEvent = fits .someEvent;
-      fewEvents = fits .fewEvents;
-      someState = states-some anew (t .pattern) (length (d .events)) g through;
-      fewStates = few;
-      someAsked = low;
-      fewAsked = high;
-      sets = λ e l. rw (set-declared e l) (fits .setsFit e l);
-      verdicts = λ s l. rw (verdict-set s l) (verdict-le (t .pattern) (getD (g .sets) s 0));
-      next = next-below })
+    fewParameters = fits .fewParameters;
+    someEvent = fits .someEvent;
+    fewEvents = fits .fewEvents;
+    someState = states-some anew (t .pattern) (length (d .events)) g through;
+    fewStates = few;
+    someAsked = low;
+    fewAsked = high;
+    sets = λ e l. rw (set-declared e l) (fits .setsFit e l);
+    verdicts = λ s l. rw (verdict-set s l) (verdict-le (t .pattern) (getD (g .sets) s 0));
+    next = next-below;
+  })
 
   -- ---- after a sequence of declared events
   state-from-walk : (p : Property) (s : ℕ) (w : List ℕ) → stateFrom p s w ≡ walk (nextState p) s w

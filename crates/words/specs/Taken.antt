@@ -1,11 +1,10 @@
 -- Document 01, "The declarations" and "Numbers of refusal": what an answer that is taken says of the tests before it, and what
 -- declarations that are taken have: 1 to 16 events, at most 4 parameters, and for each event a set of those parameters.
 -- Assumes nothing.
-use Prim.Native.Nat.{ℕ, zero, suc, _+_, _*_, _^_, _<_, _≤_}
+use Prim.Native.Nat.{ℕ, suc, _+_, _^_, _<_, _≤_}
 use native.Mathlib.Omega.{arith}
 use native.Mathlib.Nat.{pow-suc}
 use mathlib.Core.Path.{_≡_, refl, sym, ap, subst, _∙_}
-use mathlib.Core.Logic.{_⊎_, inl, inr, ⊎-elim}
 use mathlib.Core.Bool.{Bool, true, false, cond, not, _||_}
 use mathlib.Core.List.{List, [], _∷_, _++_}
 use lib.ListN.{length, getD, drop, length-append, List·getD-append}
@@ -65,10 +64,11 @@ withEvent d name set = record { parameters = d .parameters; events = d .events +
 with-event-fits : (names : List (List ℕ)) (d : Declared) (name : List ℕ) (set : ℕ) → RowsFit names d → length (d .events) < mostEvents
     → set < 2 ^ length (d .parameters) → RowsFit names (withEvent d name set)
 with-event-fits names d name set x few small = record {
-    parameters = x .parameters;
-    fewEvents = rw (length-append (d .events) (name ∷ [])) (omega arith);
-    setsLong = length-append (d .sets) (set ∷ []) ∙ ap (λ (n : ℕ). n + 1) (x .setsLong) ∙ sym (length-append (d .events) (name ∷ []));
-    setsFit = λ e l. fit e (eqb e (length (d .sets))) refl (rw (length-append (d .events) (name ∷ [])) at l) }
+  parameters = x .parameters;
+  fewEvents = rw (length-append (d .events) (name ∷ [])) (omega arith);
+  setsLong = length-append (d .sets) (set ∷ []) ∙ ap (λ (n : ℕ). n + 1) (x .setsLong) ∙ sym (length-append (d .events) (name ∷ []));
+  setsFit = λ e l. fit e (eqb e (length (d .sets))) refl (rw (length-append (d .events) (name ∷ [])) at l);
+}
   where
     fit : (e : ℕ) (t : Bool) → eqb e (length (d .sets)) ≡ t → e < length (d .events) + 1 → getD (d .sets ++ (set ∷ [])) e 0 < 2 ^ length (d .parameters)
     fit e true i l = rw (eqb-true e (length (d .sets)) i, getD-append-seam (d .sets) set [] 0) small
@@ -90,7 +90,7 @@ event-row-fits names d row d′ x h =
     let few : length (d .events) < mostEvents = leb-false mostEvents (length (d .events)) (one .0) in
     let shape = or-false (stray row || not (eqb (length marks) (length (d .parameters)))) (not (every isMark marks)) (two .0) .0 in
     let many : length marks ≡ length (d .parameters) =
-        eqb-true (length marks) (length (d .parameters)) (not-false (eqb (length marks) (length (d .parameters))) (or-false (stray row) (not (eqb (length marks) (length (d .parameters)))) shape .1)) in
+    eqb-true (length marks) (length (d .parameters)) (not-false (eqb (length marks) (length (d .parameters))) (or-false (stray row) (not (eqb (length marks) (length (d .parameters)))) shape .1)) in
     let z : 0 + length marks ≡ length marks = omega arith in
     let small : setFrom 0 marks + 1 ≤ 2 ^ length (d .parameters) = rw (z, many) at (set-from-lt 0 marks) in
     subst (RowsFit names) (taken-injective (four .1)) (with-event-fits names d name (setFrom 0 marks) x few (omega arith))
@@ -128,11 +128,12 @@ declarations-fit text d h =
     let four = refuse-if-taken (eqb (length (three .0 .events)) 0) overLimits (taken (three .0)) d (three .2) in
     let some : (length (three .0 .events) ≡ 0 → ⊥) = eqb-false (length (three .0 .events)) 0 (four .0) in
     let x : RowsFit names (three .0) =
-        event-rows-fit names (rows (afterRow text)) (taken (noEvents names)) (three .0) (λ y i. subst (RowsFit names) (taken-injective i) (no-events-fit names)) (three .1) in
+    event-rows-fit names (rows (afterRow text)) (taken (noEvents names)) (three .0) (λ y i. subst (RowsFit names) (taken-injective i) (no-events-fit names)) (three .1) in
     let few = header-row-few (firstRow text) names (two .1) in
     subst Fits (taken-injective (four .1)) (record {
       someEvent = omega arith;
       fewEvents = x .fewEvents;
       fewParameters = rw (x .parameters) few;
       setsLong = x .setsLong;
-      setsFit = x .setsFit })
+      setsFit = x .setsFit;
+    })

@@ -1,10 +1,10 @@
 -- Document 01, "The table": where the table is closed, the state reached along it is the number of the sequence's set, and
 -- each state is reached by some sequence.
 -- Assumes nothing.
-use Prim.Native.Nat.{ℕ, zero, suc, _<_, _≤_}
+use Prim.Native.Nat.{ℕ, _<_}
 use native.Mathlib.Omega.{arith}
 use mathlib.Core.Path.{_≡_, refl, sym, ap, _∙_}
-use mathlib.Core.Logic.{_⊎_, inl, inr}
+use mathlib.Core.Logic.{inl, inr}
 use mathlib.Core.Bool.{Bool}
 use mathlib.Core.List.{List, [], _∷_}
 use lib.ListN.{length, getD}
@@ -13,7 +13,7 @@ use Rattle.document.specs.Patterns.{Pattern, Among}
 use Rattle.document.specs.Positions.{move, startSet, setFrom, setAfter}
 use Rattle.document.specs.States.{Found, stateOf}
 use Rattle.words.specs.Places.{distinct-state, distinct-places, at-in, extends-length, extends-at}
-use Rattle.words.specs.Closed.{Reached, entryOf, Through}
+use Rattle.words.specs.Closed.{entryOf, Through}
 
 -- the state along a table from the state s
 unfoldable pub walk : (ℕ → ℕ → ℕ) → ℕ → List ℕ → ℕ
@@ -80,4 +80,5 @@ module _ (anew : Bool) (r : Pattern) (m : ℕ) (g : Found) (t : Through anew r m
       record {
         sequence = x .sequence;
         declared = x .declared;
-        arrives = distinct-places (g .sets) _ k (t .distinct) (walk-from (x .sequence) 0 states-some (x .declared) .below) l (walk-set (x .sequence) (x .declared) ∙ x .is) }
+        arrives = distinct-places (g .sets) _ k (t .distinct) (walk-from (x .sequence) 0 states-some (x .declared) .below) l (walk-set (x .sequence) (x .declared) ∙ x .is);
+      }
