@@ -1,5 +1,7 @@
 pub mod Sets
 pub mod Numbers
+pub mod Halves
+pub mod Parts
 pub mod Readings
 pub mod Steps
 pub mod StepsBack

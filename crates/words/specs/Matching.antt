@@ -16,7 +16,8 @@ use Rattle.document.specs.Patterns.{Pattern, Word, Begins, TotalMatching, match
 use Rattle.document.specs.Positions.{Stops, StopsAt, holds, nullable, lasts, next, named, move, startSet, setFrom, setAfter, verdictOf}
 use Rattle.words.specs.Sets.{Has, none-has, has-and, and-has, member, empty, start-has, has-start, or-cases, or-left, or-right, and-both, and-left, and-right}
 use Rattle.words.specs.Numbers.{Numbered, stops-lie, lasts-lie}
-use Rattle.words.specs.Readings.{clash, right-nil, nullable-word, Ends, nowhere, word-ends, Stopped, unread, begins-stopped, begins-empty, stops-begins}
+use Rattle.words.specs.Parts.{clash, right-nil}
+use Rattle.words.specs.Readings.{nullable-word, Ends, nowhere, word-ends, Stopped, unread, begins-stopped, begins-empty, stops-begins}
 use Rattle.words.specs.Readings as readings
 use Rattle.words.specs.Steps.{stops-nonempty, Came, begins, goes-on, stops-steps}
 use Rattle.words.specs.StepsBack.{begins-stops, stops-word, goes-on-stops}

@@ -3,56 +3,14 @@
 -- the names are numbered.
 -- Assumes nothing.
 use Prim.Native.Nat.{ℕ}
-use native.Mathlib.Omega.{arith}
-use mathlib.Core.Path.{_≡_, refl, sym, ap, _∙_}
+use mathlib.Core.Path.{_≡_, refl, sym, _∙_}
 use mathlib.Core.Logic.{inl, inr, ⊎-elim}
 use mathlib.Core.Bool.{true}
 use mathlib.Core.List.{List, [], _∷_, _++_, append-assoc, append-nil}
-use Rattle.document.specs.Patterns.{Pattern, epsilon, name, alternative, sequence, star, plus, Many, none, more, Then, Word, Begins}
+use Rattle.document.specs.Patterns.{Pattern, epsilon, name, alternative, sequence, star, plus, Many, none, more, Word, Begins}
 use Rattle.document.specs.Positions.{Stops, nullable, lasts}
+use Rattle.words.specs.Parts.{clash, left-nil, Parted, within, beyond, parted, then-with, then-end, then-alone, then-before, then-many, then-turned}
 use Rattle.words.specs.Sets.{Has, has-one, has-or-left, has-or-right, has-with-left, or-cases, or-left, or-right, and-both, and-left, and-right}
-
--- ---- lists
-pub clash : {e : ℕ} {w : List ℕ} → [] ≡ e ∷ w → ⊥
-clash h = let z : _≡_ {A = ℕ} 0 1 = cc in omega arith
-
-pub left-nil : (u v : List ℕ) → [] ≡ u ++ v → u ≡ []
-left-nil [] v h = refl
-left-nil (x ∷ u) v h = cc
-
-pub right-nil : (u v : List ℕ) → [] ≡ u ++ v → v ≡ []
-right-nil [] v h = sym h
-right-nil (x ∷ u) v h = cc
-
--- of two ways to part a list, the first part of one begins with the first part of the other
-pub data Parted (u v w rest : List ℕ) : Type 0 where
-  within : (t : List ℕ) → u ≡ w ++ t → Parted u v w rest
-  beyond : (x : ℕ) (t : List ℕ) → w ≡ u ++ (x ∷ t) → v ≡ (x ∷ t) ++ rest → Parted u v w rest
-
-pub parted : (u v w rest : List ℕ) → u ++ v ≡ w ++ rest → Parted u v w rest
-parted u v [] rest h = within u refl
-parted [] v (x ∷ w) rest h = beyond x w refl h
-parted (y ∷ u) v (x ∷ w) rest h = go (parted u v w rest (cc))
-  where
-    same : y ≡ x
-    same = cc
-
-    go : Parted u v w rest → Parted (y ∷ u) v (x ∷ w) rest
-    go (within t i) = within t (cc)
-    go (beyond z t i j) = beyond z t (cc) j
-
--- ---- words one after another
-pub many-append : (P : List ℕ → Type 0) (u v : List ℕ) → Many P u → Many P v → Many P (u ++ v)
-many-append P u v none n = n
-many-append P u v (more {u = a} {v = b} x m) n = rw append-assoc (more x (many-append P b v m n))
-
-pub many-one : (P : List ℕ → Type 0) (w : List ℕ) → P w → Many P w
-many-one P w x = let m : Many P (w ++ []) = more x none in rw append-nil at m
-
-pub many-then : (P : List ℕ → Type 0) (u v : List ℕ) → Many P u → P v → Then P (Many P) (u ++ v)
-many-then P u v none x = record { front = v; back = []; is = sym (append-nil v); left = x; right = none }
-many-then P u v (more {u = a} {v = b} y m) x =
-    record { front = a; back = b ++ v; is = append-assoc a b v; left = y; right = many-append P b v m (many-one P v x) }
 
 -- ---- the empty word
 pub nullable-word : (r : Pattern) → nullable r ≡ true → Word r []
@@ -83,11 +41,11 @@ many-ends a l (more {u = u} {v = v} x m) ends = go (many-ends a v m ends) (ends 
   where
     alone : v ≡ [] → Ends a u → Ends (star a) (u ++ v)
     alone i (nowhere j k) = nowhere (rw (i, j) refl) refl
-    alone i (at p s k) = at p (record { front = []; back = u; is = rw i (append-nil u); left = none; right = s }) k
+    alone i (at p s k) = at p (rw (i, append-nil) (then-alone u s)) k
 
     go : Ends (star a) v → Ends a u → Ends (star a) (u ++ v)
     go (nowhere i j) e = alone i e
-    go (at p s k) e = at p (record { front = u ++ s .front; back = s .back; is = ap (λ (t : List ℕ). u ++ t) (s .is) ∙ sym (append-assoc u (s .front) (s .back)); left = more x (s .left); right = s .right }) k
+    go (at p s k) e = at p (then-before (u ++ v) u v refl x s) k
 
 pub word-ends : (r : Pattern) (w : List ℕ) → Word r w → Ends r w
 unfolding nullable lasts
@@ -105,7 +63,7 @@ word-ends (alternative a b) w h = ⊎-elim (λ x. left (word-ends a w x)) (λ x.
 word-ends (sequence a b) w h = go (word-ends a (h .front) (h .left)) (word-ends b (h .back) (h .right))
   where
     go : Ends a (h .front) → Ends b (h .back) → Ends (sequence a b) w
-    go x (at p s k) = at p (inr (record { front = h .front; back = h .back; is = h .is; left = h .left; right = s })) (has-with-left (nullable b) (lasts a) (lasts b) p (inl k))
+    go x (at p s k) = at p (inr (then-with h s)) (has-with-left (nullable b) (lasts a) (lasts b) p (inl k))
     go (nowhere i j) (nowhere k l) = nowhere (h .is ∙ rw (i, k) refl) (and-both (nullable a) (nullable b) j l)
     go (at p s k) (nowhere i l) = at p (inl (rw (h .is, i, append-nil) s)) (has-with-left (nullable b) (lasts a) (lasts b) p (inr (l, k)))
 word-ends (star a) w h = many-ends a w h (word-ends a)
@@ -113,11 +71,11 @@ word-ends (plus a) w h = go (many-ends a (h .back) (h .right) (word-ends a)) (wo
   where
     alone : h .back ≡ [] → Ends a (h .front) → Ends (plus a) w
     alone i (nowhere j k) = nowhere (h .is ∙ rw (i, j) refl) k
-    alone i (at p s k) = at p (record { front = []; back = h .front; is = h .is ∙ rw i (append-nil (h .front)); left = none; right = s }) k
+    alone i (at p s k) = at p (rw (h .is, i, append-nil) (then-alone (h .front) s)) k
 
     go : Ends (star a) (h .back) → Ends a (h .front) → Ends (plus a) w
     go (nowhere i j) e = alone i e
-    go (at p s k) e = at p (record { front = h .front ++ s .front; back = s .back; is = h .is ∙ ap (λ (t : List ℕ). h .front ++ t) (s .is) ∙ sym (append-assoc (h .front) (s .front) (s .back)); left = more (h .left) (s .left); right = s .right }) k
+    go (at p s k) e = at p (then-before w (h .front) (h .back) (h .is) (h .left) s) k
 
 -- ---- what begins a word stops somewhere
 pub data Stopped (r : Pattern) (w : List ℕ) : Type 0 where
@@ -131,13 +89,14 @@ many-stopped a l (more {u = u} {v = v} x m) ih w rest h = go (parted u v w rest 
   where
     one : Stopped a w → Stopped (star a) w
     one (unread i) = unread i
-    one (at p s) = at p (record { front = []; back = w; is = refl; left = none; right = s })
+    one (at p s) = at p (then-alone w s)
 
     later : (y : ℕ) (t : List ℕ) → w ≡ u ++ (y ∷ t) → Stopped (star a) (y ∷ t) → Stopped (star a) w
     later y t i (unread j) = absurd (clash (sym j))
-    later y t i (at p s) = at p (record { front = u ++ s .front; back = s .back; is = i ∙ ap (λ (k : List ℕ). u ++ k) (s .is) ∙ sym (append-assoc u (s .front) (s .back)); left = more x (s .left); right = s .right })
+    later y t i (at p s) = at p (then-before w u (y ∷ t) i x s)
 
-    go : Parted u v w rest → ((w′ rest′ : List ℕ) → u ≡ w′ ++ rest′ → Stopped a w′) → ((w′ rest′ : List ℕ) → v ≡ w′ ++ rest′ → Stopped (star a) w′) → Stopped (star a) w
+    go : Parted u v w rest → ((w′ rest′ : List ℕ) → u ≡ w′ ++ rest′ → Stopped a w′)
+        → ((w′ rest′ : List ℕ) → v ≡ w′ ++ rest′ → Stopped (star a) w′) → Stopped (star a) w
     go (within t i) f g = one (f w t i)
     go (beyond y t i j) f g = later y t i (g (y ∷ t) rest j)
 
@@ -203,10 +162,6 @@ begins-empty (plus a) =
     let x = begins-empty a in
     record { rest = x .rest ++ []; whole = record { front = x .rest; back = []; is = refl; left = x .whole; right = none } }
 
--- w parted, and gone on
-on : (w u v rest : List ℕ) → w ≡ u ++ v → w ++ rest ≡ u ++ (v ++ rest)
-on w u v rest i = rw i (append-assoc u v rest)
-
 pub stops-begins : (r : Pattern) (p : ℕ) (w : List ℕ) → Stops r p w → Begins r w
 stops-begins epsilon p w h = absurd h
 stops-begins (name q e) p w h = record { rest = []; whole = append-nil w ∙ h .1 }
@@ -214,16 +169,17 @@ stops-begins (alternative a b) p w h = ⊎-elim
     (λ x. let g = stops-begins a p w x in record { rest = g .rest; whole = inl (g .whole) })
     (λ x. let g = stops-begins b p w x in record { rest = g .rest; whole = inr (g .whole) }) h
 stops-begins (sequence a b) p w h = ⊎-elim
-    (λ x.
-    let g = stops-begins a p w x in
-    let y = begins-empty b in
-    record { rest = g .rest ++ y .rest; whole = record { front = w ++ g .rest; back = y .rest; is = sym (append-assoc w (g .rest) (y .rest)); left = g .whole; right = y .whole } })
-    (λ x.
-    let g = stops-begins b p (x .back) (x .right) in
-    record { rest = g .rest; whole = record { front = x .front; back = x .back ++ g .rest; is = on w (x .front) (x .back) (g .rest) (x .is); left = x .left; right = g .whole } }) h
+    (λ x. left (stops-begins a p w x) (begins-empty b))
+    (λ x. let g = stops-begins b p (x .back) (x .right) in record { rest = g .rest; whole = then-end x (g .rest) (g .whole) }) h
+  where
+    left : Begins a w → Begins b [] → Begins (sequence a b) w
+    left g y = record {
+      rest = g .rest ++ y .rest;
+      whole = record { front = w ++ g .rest; back = y .rest; is = sym (append-assoc w (g .rest) (y .rest)); left = g .whole; right = y .whole };
+    }
 stops-begins (star a) p w h =
     let g = stops-begins a p (h .back) (h .right) in
-    record { rest = g .rest; whole = rw (on w (h .front) (h .back) (g .rest) (h .is)) (many-append (Word a) (h .front) (h .back ++ g .rest) (h .left) (many-one (Word a) (h .back ++ g .rest) (g .whole))) }
+    record { rest = g .rest; whole = then-many (Word a) (w ++ g .rest) (then-end h (g .rest) (g .whole)) }
 stops-begins (plus a) p w h =
     let g = stops-begins a p (h .back) (h .right) in
-    record { rest = g .rest; whole = rw (on w (h .front) (h .back) (g .rest) (h .is)) (many-then (Word a) (h .front) (h .back ++ g .rest) (h .left) (g .whole)) }
+    record { rest = g .rest; whole = then-turned (Word a) (w ++ g .rest) (then-end h (g .rest) (g .whole)) }

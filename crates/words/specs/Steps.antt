@@ -12,24 +12,8 @@ use borrow.Author.Tests.{eq-eqb}
 use Rattle.document.specs.Patterns.{Pattern, epsilon, name, alternative, sequence, star, plus, Many, Then, Word}
 use Rattle.document.specs.Positions.{Stops, holds, nullable, firsts, lasts, follows, named}
 use Rattle.words.specs.Sets.{Has, has-one, has-or-left, has-or-right, has-guarded, has-with-right}
-use Rattle.words.specs.Readings.{clash, right-nil, Ends, nowhere, at, word-ends}
-
--- a list with one more at its end, parted: the second part is empty or ends with it
-pub data EndParted (u v w : List ℕ) (e : ℕ) : Type 0 where
-  nothing : v ≡ [] → EndParted u v w e
-  something : (t : List ℕ) → v ≡ t ++ (e ∷ []) → w ≡ u ++ t → EndParted u v w e
-
-pub end-parted : (u v w : List ℕ) (e : ℕ) → w ++ (e ∷ []) ≡ u ++ v → EndParted u v w e
-end-parted [] v w e h = something w (sym h) refl
-end-parted (x ∷ u) v [] e h = let t : [] ≡ u ++ v = cc in nothing (right-nil u v t)
-end-parted (x ∷ u) v (y ∷ w) e h = go (end-parted u v w e (cc))
-  where
-    same : x ≡ y
-    same = cc
-
-    go : EndParted u v w e → EndParted (x ∷ u) v (y ∷ w) e
-    go (nothing i) = nothing i
-    go (something t i j) = something t i (cc)
+use Rattle.words.specs.Parts.{clash, right-nil, EndParted, nothing, something, end-parted}
+use Rattle.words.specs.Readings.{Ends, nowhere, at, word-ends}
 
 pub stops-nonempty : (r : Pattern) (p : ℕ) → Stops r p [] → ⊥
 stops-nonempty epsilon p h = h
