@@ -4,7 +4,7 @@
 -- Assumes nothing.
 use Prim.Native.Nat.{ℕ, zero, suc, _+_, _<_, _≤_}
 use native.Mathlib.Omega.{arith}
-use mathlib.Core.Path.{_≡_, refl, sym, ap, _∙_}
+use mathlib.Core.Path.{_≡_, refl, ap, _∙_}
 use mathlib.Core.Logic.{_⊎_, inl, inr, ⊎-elim}
 use mathlib.Core.Bool.{Bool, true, false}
 use mathlib.Core.List.{List, [], _∷_, _++_}
@@ -44,8 +44,14 @@ module _ (anew : Bool) (r : Pattern) (m : ℕ) where
     pub reached : (x : ℕ) → In x new → Reached x
     pub has : (f : ℕ) → f < n → In (move anew r s (e + f)) new
 
-  find-more : (s e n : ℕ) (found one new : List ℕ) → Finds (move anew r s e) found one → FindsAll s (suc e) n one new → FindsAll s e (suc n) found new
-  find-more s e n found one new g h = record { extends = extends-twice found one new (g .extends) (h .extends); distinct = h .distinct; reached = h .reached; has = has }
+  find-more : (s e n : ℕ) (found one new : List ℕ) → Finds (move anew r s e) found one → FindsAll s (suc e) n one new
+      → FindsAll s e (suc n) found new
+  find-more s e n found one new g h = record {
+    extends = extends-twice found one new (g .extends) (h .extends);
+    distinct = h .distinct;
+    reached = h .reached;
+    has = has;
+  }
     where
       has : (f : ℕ) → f < suc n → In (move anew r s (e + f)) new
       has zero k = let z : e + 0 ≡ e = omega arith in rw z (extends-in one new (h .extends) (move anew r s e) (g .has))
@@ -58,7 +64,8 @@ module _ (anew : Bool) (r : Pattern) (m : ℕ) where
   find-all s e (suc n) found l h d all =
       let one : List ℕ = find (move anew r s e) found in
       let g : Finds (move anew r s e) found one = find-finds (move anew r s e) found d in
-      let all′ : ((x : ℕ) → In x one → Reached x) = λ x i. ⊎-elim (all x) (λ (j : x ≡ move anew r s e). rw j (reached-move s e h (omega arith))) (g .only x i) in
+      let moved : Reached (move anew r s e) = reached-move s e h (omega arith) in
+      let all′ : ((x : ℕ) → In x one → Reached x) = λ x i. ⊎-elim (all x) (λ (j : x ≡ move anew r s e). rw j moved) (g .only x i) in
       find-more s e n found one (findAll anew r s (suc e) n one) g (find-all s (suc e) n one (omega arith) h (g .distinct) all′)
 
   pub row-at : (s e n : ℕ) (found : List ℕ) (f : ℕ) → f < n → getD (rowOf anew r s e n found) f 0 ≡ stateOf (move anew r s (e + f)) found
@@ -90,8 +97,8 @@ module _ (anew : Bool) (r : Pattern) (m : ℕ) where
   entry-stays : (g h : Found) (row : List ℕ) → h .table ≡ g .table ++ (row ∷ []) → Extends (g .sets) (h .sets)
       → (k e : ℕ) → k < length (g .table) → k < length (g .sets) → Entry g k e → Entry h k e
   entry-stays g h row i x k e a b old =
-      let same : entryOf h k e ≡ entryOf g k e =
-      ap (λ (t : List (List ℕ)). getD (getD t k []) e 0) i ∙ ap (λ (l : List ℕ). getD l e 0) (List·getD-append (g .table) (row ∷ []) [] k a) in
+      let there : getD (h .table) k [] ≡ getD (g .table) k [] = rw i (List·getD-append (g .table) (row ∷ []) [] k a) in
+      let same : entryOf h k e ≡ entryOf g k e = ap (λ (l : List ℕ). getD l e 0) there in
       let p = old .below in
       let q = extends-length (g .sets) (h .sets) x in
       record {
@@ -136,13 +143,13 @@ module _ (anew : Bool) (r : Pattern) (m : ℕ) where
       entry-new e b =
           let here : getD (g .table ++ (row ∷ [])) i [] ≡ row = rw (t .rows) at (getD-append-seam (g .table) row [] []) in
           let z : 0 + e ≡ e = omega arith in
-          let same : getD (getD (g .table ++ (row ∷ [])) i []) e 0 ≡ stateOf (move anew r s e) found =
-          ap (λ (k : List ℕ). getD k e 0) here ∙ row-at s 0 m found e b ∙ ap (λ (f : ℕ). stateOf (move anew r s f) found) z in
+          let entry : getD row e 0 ≡ stateOf (move anew r s e) found = rw z at (row-at s 0 m found e b) in
+          let same : getD (getD (g .table ++ (row ∷ [])) i []) e 0 ≡ stateOf (move anew r s e) found = ap (λ (k : List ℕ). getD k e 0) here ∙ entry in
           let known : In (move anew r s e) found = rw z at (all .has e b) in
           let below = in-state (move anew r s e) found known in
           record {
             below = rw same below;
-            is = rw same (state-at (move anew r s e) found below ∙ ap (λ (x : ℕ). move anew r x e) (sym (extends-at (g .sets) found (all .extends) i l)));
+            is = rw (same, extends-at (g .sets) found (all .extends) i l) (state-at (move anew r s e) found below);
           }
 
       entry : (k e : ℕ) → e < m → (u : Bool) → eqb k i ≡ u → k < suc i → Entry (gone-through i g) k e
@@ -163,7 +170,8 @@ module _ (anew : Bool) (r : Pattern) (m : ℕ) where
   go-through zero i g t = record { at = i; through = t; why = inr (omega arith) }
   go-through (suc n) i g t = go (ltb i (length (g .sets))) refl (go-through n (suc i) (gone-through i g))
     where
-      go : (u : Bool) → ltb i (length (g .sets)) ≡ u → (Through (suc i) (gone-through i g) → Ended (suc i) n (goThrough anew r m (suc i) n (gone-through i g)))
+      go : (u : Bool) → ltb i (length (g .sets)) ≡ u
+          → (Through (suc i) (gone-through i g) → Ended (suc i) n (goThrough anew r m (suc i) n (gone-through i g)))
           → Ended i (suc n) (elim u [ false ↦ g | true ↦ goThrough anew r m (suc i) n (gone-through i g) ])
       go false u ih = let l = ltb-false i (length (g .sets)) u in let k = t .gone in record { at = i; through = t; why = inl (omega arith) }
       go true u ih =
@@ -185,5 +193,6 @@ module _ (anew : Bool) (r : Pattern) (m : ℕ) where
   pub states-closed : length (statesOf anew r m .sets) ≤ mostStates → Through (length (statesOf anew r m .sets)) (statesOf anew r m)
   states-closed few =
       let x = states-ended in
-      let z : x .at ≡ length (statesOf anew r m .sets) = ⊎-elim (λ k. k) (λ (k : x .at ≡ suc mostStates). let l = x .through .gone in absurd (omega arith)) (x .why) in
+      let l = x .through .gone in
+      let z : x .at ≡ length (statesOf anew r m .sets) = ⊎-elim (λ k. k) (λ (k : x .at ≡ suc mostStates). absurd (omega arith)) (x .why) in
       rw z at (x .through)

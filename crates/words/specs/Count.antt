@@ -57,7 +57,8 @@ module _ (anew : Bool) (r : Pattern) (m : ℕ) where
   -- more sets than n give more than n sequences apart
   pub states-more : (n i : ℕ) (g : Found) → Through anew r m i g → n < length (g .sets) → MoreStates anew r m n
   states-more n i g t l =
-      let x = sequences-for (take (suc n) (g .sets)) (take-distinct (suc n) (g .sets) (t .distinct)) (λ y k. t .reached y (take-in (suc n) (g .sets) y k)) in
+      let first : List ℕ = take (suc n) (g .sets) in
+      let x = sequences-for first (take-distinct (suc n) (g .sets) (t .distinct)) (λ y k. t .reached y (take-in (suc n) (g .sets) y k)) in
       record {
         sequences = x .sequences;
         many = x .many ∙ length-take-le (suc n) (g .sets) l;

@@ -2,7 +2,6 @@
 -- where the readers are): what remains is the order of the refusals and the table, and both are proved here.
 -- Assumes nothing.
 use Prim.Native.Nat.{ℕ, _<_, _≤_}
-use native.Mathlib.Omega.{arith}
 use mathlib.Core.Path.{_≡_, refl, sym, subst, subst₂}
 use mathlib.Core.Bool.{Bool, true, false}
 use mathlib.Core.List.{List}
@@ -21,7 +20,7 @@ use Rattle.document.specs.Translate.{anew, translate}
 use Rattle.document.specs.Demands.{tokensOf, Allowed, Means, RefusedFor, declarationsRefused, patternTooLong, faulty, statesExceeded, Demand2}
 use Rattle.words.specs.Count.{more-states}
 use Rattle.words.specs.Taken.{refused-taken, taken-injective}
-use Rattle.words.specs.Meaning.{statesFor, tableFor, few-states, allowed-means}
+use Rattle.words.specs.Meaning.{statesFor, tableFor, states-few, few-states, allowed-means}
 
 abbrev pub Faultless : Declared → List ℕ → Type 0
 Faultless d text = (i : ℕ) (q : Refusal) → Fault (d .events) (tokensOf text) i q → ⊥
@@ -41,29 +40,35 @@ pub data Translated (events text : List ℕ) : Answer Property → Type 0 where
   tabled : {d : Declared} {t : Parsed} → Comes events text d → parse (d .events) text ≡ taken t → length (statesFor d (t .pattern) .sets) ≤ mostStates
       → Translated events text (taken (tableFor d t))
 
+-- the answer for what was read, and for what was declared
+abbrev fromRead : Declared → Parsed → Answer Property
+fromRead d t = refuseIf (ltb mostStates (length (statesFor d (t .pattern) .sets))) tooManyStates (taken (tableFor d t))
+
+abbrev fromDeclared : List ℕ → Declared → Answer Property
+fromDeclared text d = refuseIf (ltb textBytes (length text)) textTooLong (andThen (parse (d .events) text) (fromRead d))
+
 pub translated : (events text : List ℕ) → Translated events text (translate events text)
 unfolding translate
 translated events text = from-declarations (declarations events) refl
   where
     from-states : (d : Declared) (t : Parsed) → Comes events text d → parse (d .events) text ≡ taken t
-        → (u : Bool) → ltb mostStates (length (statesFor d (t .pattern) .sets)) ≡ u → Translated events text (refuseIf u tooManyStates (taken (tableFor d t)))
+        → (u : Bool) → ltb mostStates (length (statesFor d (t .pattern) .sets)) ≡ u
+        → Translated events text (refuseIf u tooManyStates (taken (tableFor d t)))
     from-states d t c e true u = tooMany c e (ltb-true mostStates (length (statesFor d (t .pattern) .sets)) u)
     from-states d t c e false u = tabled c e (ltb-false mostStates (length (statesFor d (t .pattern) .sets)) u)
 
     from-pattern : (d : Declared) → Comes events text d → (a : Answer Parsed) → parse (d .events) text ≡ a
-        → Translated events text (andThen a (λ t. refuseIf (ltb mostStates (length (statesFor d (t .pattern) .sets))) tooManyStates (taken (tableFor d t))))
+        → Translated events text (andThen a (fromRead d))
     from-pattern d c (taken t) e = from-states d t c e (ltb mostStates (length (statesFor d (t .pattern) .sets))) refl
     from-pattern d c (refused q at) e = notRead c e
 
     from-text : (d : Declared) → declarations events ≡ taken d → (u : Bool) → ltb textBytes (length text) ≡ u
-        → Translated events text (refuseIf u textTooLong (andThen (parse (d .events) text) (λ t.
-        refuseIf (ltb mostStates (length (statesFor d (t .pattern) .sets))) tooManyStates (taken (tableFor d t)))))
+        → Translated events text (refuseIf u textTooLong (andThen (parse (d .events) text) (fromRead d)))
     from-text d e true u = tooLong e (ltb-true textBytes (length text) u)
     from-text d e false u = from-pattern d (record { declares = e; short = ltb-false textBytes (length text) u }) (parse (d .events) text) refl
 
     from-declarations : (a : Answer Declared) → declarations events ≡ a
-        → Translated events text (andThen a (λ d. refuseIf (ltb textBytes (length text)) textTooLong (andThen (parse (d .events) text) (λ t.
-        refuseIf (ltb mostStates (length (statesFor d (t .pattern) .sets))) tooManyStates (taken (tableFor d t))))))
+        → Translated events text (andThen a (fromDeclared text))
     from-declarations (taken d) e = from-text d e (ltb textBytes (length text)) refl
     from-declarations (refused q at) e = notDeclared e
 
@@ -92,7 +97,8 @@ module _ (readers : ReadersRight) where
       let comes : Comes events text d = record { declares = a .declares; short = a .short } in
       let read : parse (d .events) text ≡ taken t = readers .takes events text d comes (a .pattern) (a .asked) (a .whole) (a .faultless) in
       let few : length (statesFor d (a .pattern) .sets) ≤ mostStates = few-states d (a .pattern) (a .fewStates) in
-      (tableFor d t, rw (a .declares, le-ltb textBytes (length text) (a .short), read, le-ltb mostStates (length (statesFor d (a .pattern) .sets)) few) refl)
+      let fits = le-ltb mostStates (length (statesFor d (a .pattern) .sets)) few in
+      (tableFor d t, rw (a .declares, le-ltb textBytes (length text) (a .short), read, fits) refl)
 
   demand-means : (events text : List ℕ) (p : Property) → translate events text ≡ taken p → (a : Allowed events text) × Means a p
   demand-means events text p h = go (translate events text) (translated events text) h
@@ -112,14 +118,15 @@ module _ (readers : ReadersRight) where
             short = c .short;
             whole = read .0;
             faultless = read .1;
-            fewStates = λ m. let k = ltb-true mostStates (length (statesFor d (t .pattern) .sets)) (more-states anew (t .pattern) (length (d .events)) .1 m) in omega arith;
+            fewStates = states-few d (t .pattern) l;
           } in
           (x, subst (Means x) (taken-injective i) (allowed-means x))
 
   demand-refuses : (events text : List ℕ) (r : Refusal) (at : ℕ) → translate events text ≡ refused r at → RefusedFor events text r at
   demand-refuses events text r at h = go (translate events text) (translated events text) h
     where
-      same : {q : Refusal} {k : ℕ} → _≡_ {A = Answer Property} (refused q k) (refused r at) → RefusedFor events text q k → RefusedFor events text r at
+      same : {q : Refusal} {k : ℕ} → _≡_ {A = Answer Property} (refused q k) (refused r at) → RefusedFor events text q k
+          → RefusedFor events text r at
       same {q} {k} i x = subst₂ (RefusedFor events text) (cc) (cc) x
 
       go : (a : Answer Property) → Translated events text a → a ≡ refused r at → RefusedFor events text r at

@@ -3,12 +3,13 @@
 -- do not bear on states, transitions and verdicts.
 -- Assumes nothing.
 use Prim.Native.Nat.{ℕ, _≤_}
+use native.Mathlib.Omega.{arith}
 use mathlib.Core.Path.{_≡_, refl, ap}
 use mathlib.Core.Bool.{Bool, true, false}
 use mathlib.Core.List.{List}
 use lib.ListN.{length, take}
 use lib.Dec.{ltb}
-use borrow.Author.Tests.{ltb-false}
+use borrow.Author.Tests.{ltb-true, ltb-false}
 use Rattle.document.specs.Limits.{mostNames, mostStates}
 use Rattle.document.specs.Declarations.{Declared}
 use Rattle.document.specs.Patterns.{Pattern, TotalMatching, Among}
@@ -33,7 +34,13 @@ abbrev pub tableFor : Declared → Parsed → Property
 tableFor d t = propertyOf d t (statesFor d (t .pattern))
 
 -- refusal 10 is given exactly where there are more than 64 states
-pub few-states : (d : Declared) (r : Pattern) → (MoreStates anew r (length (d .events)) mostStates → ⊥) → length (statesFor d r .sets) ≤ mostStates
+pub states-few : (d : Declared) (r : Pattern) → length (statesFor d r .sets) ≤ mostStates → MoreStates anew r (length (d .events)) mostStates → ⊥
+states-few d r few m =
+    let more = ltb-true mostStates (length (statesFor d r .sets)) (more-states anew r (length (d .events)) .1 m) in
+    omega arith
+
+pub few-states : (d : Declared) (r : Pattern) → (MoreStates anew r (length (d .events)) mostStates → ⊥)
+    → length (statesFor d r .sets) ≤ mostStates
 few-states d r h = go (ltb mostStates (length (statesFor d r .sets))) refl
   where
     go : (t : Bool) → ltb mostStates (length (statesFor d r .sets)) ≡ t → length (statesFor d r .sets) ≤ mostStates

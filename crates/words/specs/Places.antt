@@ -98,7 +98,10 @@ pub extends-itself : (l : List ℕ) → Extends l l
 extends-itself l = record { added = []; is = sym (append-nil l) }
 
 pub extends-twice : (a b c : List ℕ) → Extends a b → Extends b c → Extends a c
-extends-twice a b c x y = record { added = x .added ++ y .added; is = y .is ∙ ap (λ (l : List ℕ). l ++ y .added) (x .is) ∙ append-assoc a (x .added) (y .added) }
+extends-twice a b c x y = record {
+  added = x .added ++ y .added;
+  is = y .is ∙ ap (λ (l : List ℕ). l ++ y .added) (x .is) ∙ append-assoc a (x .added) (y .added);
+}
 
 pub extends-length : (a b : List ℕ) → Extends a b → length a ≤ length b
 extends-length a b x = let l : length b ≡ length a + length (x .added) = ap length (x .is) ∙ length-append a (x .added) in omega arith
@@ -121,7 +124,9 @@ unfolding find
 find-finds s found d = go (ltb (stateOf s found) (length found)) refl
   where
     known : stateOf s found < length found → Finds s found found
-    known h = record { extends = extends-itself found; distinct = d; has = rw (state-at s found h) at (at-in found (stateOf s found) h); only = λ x i. inl i }
+    known h =
+        let has : In s found = rw (state-at s found h) at (at-in found (stateOf s found) h) in
+        record { extends = extends-itself found; distinct = d; has = has; only = λ x i. inl i }
 
     new : (In s found → ⊥) → Finds s found (found ++ (s ∷ []))
     new h = record {
@@ -146,7 +151,10 @@ without : (x : ℕ) (l : List ℕ) → In x l → Without x l
 without x [] h = absurd h
 without x (z ∷ l) h = ⊎-elim
     (λ i. record { rest = l; shorter = refl; others = λ y n j. ⊎-elim (λ k. absurd (n (k ∙ sym i))) (λ k. k) j })
-    (λ i. let g = without x l i in record { rest = z ∷ g .rest; shorter = ap suc (g .shorter); others = λ y n j. ⊎-elim inl (λ k. inr (g .others y n k)) j }) h
+    (λ i. later (without x l i)) h
+  where
+    later : Without x l → Without x (z ∷ l)
+    later g = record { rest = z ∷ g .rest; shorter = ap suc (g .shorter); others = λ y n j. ⊎-elim inl (λ k. inr (g .others y n k)) j }
 
 pub distinct-length : (l k : List ℕ) → Distinct l → ((x : ℕ) → In x l → In x k) → length l ≤ length k
 distinct-length [] k d h = omega arith

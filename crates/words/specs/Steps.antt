@@ -44,7 +44,9 @@ module _ (a b : Pattern) (p q : ℕ) where
 
   follows-link : Has (lasts a) p → Has (firsts b) q → Has (follows (sequence a b) p) q
   unfolding follows
-  follows-link l f = has-or-right (bitOr (follows a p) (follows b p)) (cond (holds (lasts a) p) (firsts b) 0) q (has-guarded (holds (lasts a) p) (firsts b) q l f)
+  follows-link l f =
+      has-or-right (bitOr (follows a p) (follows b p)) (cond (holds (lasts a) p) (firsts b) 0) q
+      (has-guarded (holds (lasts a) p) (firsts b) q l f)
 
 -- one more event of a reading of a*
 many-came : (a : Pattern) (q e : ℕ) (l w : List ℕ) → Then (Many (Word a)) (Stops a q) l → l ≡ w ++ (e ∷ [])
@@ -54,7 +56,9 @@ many-came a q e l w x i ih = go (end-parted (x .front) (x .back) w e (sym i ∙ 
   where
     link : Ends (star a) w → Has (firsts a) q → Came (star a) w q
     link (nowhere j k) f = begins j f
-    link (at p s k) f = goes-on p s (has-or-right (follows a p) (cond (holds (lasts a) p) (firsts a) 0) q (has-guarded (holds (lasts a) p) (firsts a) q k f))
+    link (at p s k) f =
+        let again = has-guarded (holds (lasts a) p) (firsts a) q k f in
+        goes-on p s (has-or-right (follows a p) (cond (holds (lasts a) p) (firsts a) 0) q again)
 
     came : (t : List ℕ) → w ≡ x .front ++ t → Came a t q → Came (star a) w q
     came t k (begins j f) = link (word-ends (star a) w (rw (k, j, append-nil) (x .left))) f
@@ -106,7 +110,8 @@ stops-steps (sequence a b) q e l w h i = ⊎-elim
     came-right x t k (begins j f) = link (word-ends a w (rw (k, j, append-nil) (x .left))) f
     came-right x t k (goes-on p s f) = goes-on p (inr (record { front = x .front; back = t; is = k; left = x .left; right = s })) (follows-right a b p q f)
 
-    right : (x : Then (Word a) (Stops b q) l) → EndParted (x .front) (x .back) w e → ((t : List ℕ) → x .back ≡ t ++ (e ∷ []) → Steps b t e q) → Steps (sequence a b) w e q
+    right : (x : Then (Word a) (Stops b q) l) → EndParted (x .front) (x .back) w e
+        → ((t : List ℕ) → x .back ≡ t ++ (e ∷ []) → Steps b t e q) → Steps (sequence a b) w e q
     right x (nothing j) ih = absurd (stops-nonempty b q (rw j at (x .right)))
     right x (something t j k) ih = let g = ih t j in record { came = came-right x t k (g .came); names = has-or-right (named a e) (named b e) q (g .names) }
 stops-steps (star a) q e l w h i = many-came a q e l w h i (λ t back s j. stops-steps a q e back t s j)

@@ -89,8 +89,8 @@ event-row-fits names d row d′ x h =
     let four = refuse-if-taken (among name (d .events)) nameTwice (taken (withEvent d name (setFrom 0 marks))) d′ (three .1) in
     let few : length (d .events) < mostEvents = leb-false mostEvents (length (d .events)) (one .0) in
     let shape = or-false (stray row || not (eqb (length marks) (length (d .parameters)))) (not (every isMark marks)) (two .0) .0 in
-    let many : length marks ≡ length (d .parameters) =
-    eqb-true (length marks) (length (d .parameters)) (not-false (eqb (length marks) (length (d .parameters))) (or-false (stray row) (not (eqb (length marks) (length (d .parameters)))) shape .1)) in
+    let counted = or-false (stray row) (not (eqb (length marks) (length (d .parameters)))) shape .1 in
+    let many : length marks ≡ length (d .parameters) = eqb-true _ _ (not-false (eqb (length marks) (length (d .parameters))) counted) in
     let z : 0 + length marks ≡ length marks = omega arith in
     let small : setFrom 0 marks + 1 ≤ 2 ^ length (d .parameters) = rw (z, many) at (set-from-lt 0 marks) in
     subst (RowsFit names) (taken-injective (four .1)) (with-event-fits names d name (setFrom 0 marks) x few (omega arith))
@@ -127,8 +127,8 @@ declarations-fit text d h =
     let three = and-then-taken (eventRows (taken (noEvents names)) (rows (afterRow text))) _ d (two .2) in
     let four = refuse-if-taken (eqb (length (three .0 .events)) 0) overLimits (taken (three .0)) d (three .2) in
     let some : (length (three .0 .events) ≡ 0 → ⊥) = eqb-false (length (three .0 .events)) 0 (four .0) in
-    let x : RowsFit names (three .0) =
-    event-rows-fit names (rows (afterRow text)) (taken (noEvents names)) (three .0) (λ y i. subst (RowsFit names) (taken-injective i) (no-events-fit names)) (three .1) in
+    let none : ((y : Declared) → taken (noEvents names) ≡ taken y → RowsFit names y) = λ y i. subst (RowsFit names) (taken-injective i) (no-events-fit names) in
+    let x : RowsFit names (three .0) = event-rows-fit names (rows (afterRow text)) (taken (noEvents names)) (three .0) none (three .1) in
     let few = header-row-few (firstRow text) names (two .1) in
     subst Fits (taken-injective (four .1)) (record {
       someEvent = omega arith;

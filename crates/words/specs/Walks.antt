@@ -77,8 +77,9 @@ module _ (anew : Bool) (r : Pattern) (m : ℕ) (g : Found) (t : Through anew r m
   pub state-reached : (k : ℕ) → k < length (g .sets) → LedTo k
   state-reached k l =
       let x = t .reached (getD (g .sets) k 0) (at-in (g .sets) k l) in
+      let y = walk-from (x .sequence) 0 states-some (x .declared) in
       record {
         sequence = x .sequence;
         declared = x .declared;
-        arrives = distinct-places (g .sets) _ k (t .distinct) (walk-from (x .sequence) 0 states-some (x .declared) .below) l (walk-set (x .sequence) (x .declared) ∙ x .is);
+        arrives = distinct-places (g .sets) _ k (t .distinct) (y .below) l (walk-set (x .sequence) (x .declared) ∙ x .is);
       }
