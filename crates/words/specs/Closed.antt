@@ -20,6 +20,10 @@ use Rattle.document.specs.States.{Found, stateOf, find, findAll, rowOf, goThrou
 use Rattle.words.specs.Moves.{set-after-empty, set-after-event}
 use Rattle.words.specs.Places.{Distinct, state-at, in-state, at-in, in-append, Extends, extends-itself, extends-twice, extends-length, extends-at, extends-in, Finds, find-finds}
 
+-- the table's entry for state k and event e
+abbrev pub entryOf : Found → ℕ → ℕ → ℕ
+entryOf g k e = getD (getD (g .table) k []) e 0
+
 module _ (anew : Bool) (r : Pattern) (m : ℕ) where
   -- x is the set of a sequence of the first m events
   pub record Reached (x : ℕ) : Type 0 where
@@ -75,11 +79,7 @@ module _ (anew : Bool) (r : Pattern) (m : ℕ) where
   row-at s e (suc n) found (suc f) l = let z : e + suc f ≡ suc e + f = omega arith in rw z (row-at s (suc e) n found f (omega arith))
 
   -- ---- going through the states
-  -- the table's entry for state k and event e
-  abbrev pub entryOf : Found → ℕ → ℕ → ℕ
-  entryOf g k e = getD (getD (g .table) k []) e 0
-
-  -- it is the number of the set that the event leads to
+  -- an entry is the number of the set that its event leads to
   pub record Entry (g : Found) (k e : ℕ) : Type 0 where
     pub below : entryOf g k e < length (g .sets)
     pub is : getD (g .sets) (entryOf g k e) 0 ≡ move anew r (getD (g .sets) k 0) e

@@ -1,6 +1,6 @@
 -- The customer's demand 2 as a whole, from what the readers of the pattern text say of the grammar (`ReadersRight`, proved
 -- where the readers are): what remains is the order of the refusals and the table, and both are proved here.
--- Assumes nothing.
+-- Assumes nothing: what the readers say is an argument of `demand-two`.
 use Prim.Native.Nat.{ℕ, _<_, _≤_}
 use mathlib.Core.Path.{_≡_, refl, sym, subst, subst₂}
 use mathlib.Core.Bool.{Bool, true, false}

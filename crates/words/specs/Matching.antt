@@ -2,7 +2,7 @@
 -- stopped, and its verdict is the total-matching verdict: the sequence is a word exactly where the verdict is match, and
 -- begins none exactly where its set is empty.
 -- Assumes nothing.
-use Prim.Native.Nat.{ℕ, zero, suc, _<_, _≤_}
+use Prim.Native.Nat.{ℕ, zero, suc, _≤_}
 use native.Mathlib.Omega.{arith}
 use mathlib.Core.Path.{_≡_, refl, sym, ap, _∙_}
 use mathlib.Core.Logic.{⊎-elim, _↔_}
@@ -28,15 +28,14 @@ pub record IsSetOf (r : Pattern) (w : List ℕ) (s : ℕ) : Type 0 where
   pub sound : (p : ℕ) → Has s p → StopsAt r p w
   pub full : (p : ℕ) → StopsAt r p w → Has s p
 
+-- the test of the verdict match
+accepts : Pattern → ℕ → Bool
+accepts r s = (holds s 0 && nullable r) || not (eqb (bitAnd s (lasts r)) 0)
+
 module _ (r : Pattern) (hi : ℕ) (n : Numbered r 0 hi) where
   stops-stops-at : (p : ℕ) (w : List ℕ) → Stops r p w → StopsAt r p w
   stops-stops-at zero w h = let l = stops-lie r 0 hi n zero w h in absurd (omega arith)
   stops-stops-at (suc p) w h = h
-
-  -- a number that is not 0 is a name's
-  stops-at-stops : (p : ℕ) (w : List ℕ) → 0 < p → StopsAt r p w → Stops r p w
-  stops-at-stops zero w l h = absurd (omega arith)
-  stops-at-stops (suc p) w l h = h
 
   pub stops-at-le : (p : ℕ) (w : List ℕ) → StopsAt r p w → p ≤ hi
   stops-at-le zero w h = omega arith
@@ -106,11 +105,7 @@ module _ (r : Pattern) (hi : ℕ) (n : Numbered r 0 hi) where
     pub set-begins : (Begins r w → ⊥) → s ≡ 0
     set-begins b = empty s (λ p h. b (held-begins p (is .sound p h)))
 
-    -- the test of the verdict match
-    accepts : Bool
-    accepts = (holds s 0 && nullable r) || not (eqb (bitAnd s (lasts r)) 0)
-
-    accepts-word : accepts ≡ true → Word r w
+    accepts-word : accepts r s ≡ true → Word r w
     unfolding accepts
     accepts-word h = ⊎-elim
         (λ x. let i : w ≡ [] = is .sound 0 (and-left (holds s 0) (nullable r) x) in rw i (nullable-word r (and-right (holds s 0) (nullable r) x)))
@@ -124,7 +119,7 @@ module _ (r : Pattern) (hi : ℕ) (n : Numbered r 0 hi) where
         stopped zero h l = let x = lasts-lie r 0 hi n zero l in absurd (omega arith)
         stopped (suc p) h l = stops-word r 0 hi n (suc p) w h l
 
-    word-accepts : Word r w → accepts ≡ true
+    word-accepts : Word r w → accepts r s ≡ true
     unfolding accepts
     word-accepts x = go (word-ends r w x)
       where
@@ -136,9 +131,9 @@ module _ (r : Pattern) (hi : ℕ) (n : Numbered r 0 hi) where
 
     pub verdict-total : TotalMatching r w (verdictOf r s)
     unfolding verdictOf accepts
-    verdict-total = go accepts refl (eqb s 0) refl
+    verdict-total = go (accepts r s) refl (eqb s 0) refl
       where
-        go : (t : Bool) → accepts ≡ t → (u : Bool) → eqb s 0 ≡ u → TotalMatching r w (cond t match (cond u fail undecided))
+        go : (t : Bool) → accepts r s ≡ t → (u : Bool) → eqb s 0 ≡ u → TotalMatching r w (cond t match (cond u fail undecided))
         go true e u f = record {
           verdict = omega arith;
           matches = (λ z. accepts-word e, λ x. refl);

@@ -52,10 +52,6 @@ at-in [] k h = absurd (omega arith)
 at-in (x ∷ l) zero h = inl refl
 at-in (x ∷ l) (suc k) h = inr (at-in l k (omega arith))
 
--- a member stands at some place
-pub in-at : (x : ℕ) (l : List ℕ) → In x l → (k : ℕ) × (k < length l) × (getD l k 0 ≡ x)
-in-at x l h = let p = in-state x l h in (stateOf x l, p, state-at x l p)
-
 pub distinct-state : (found : List ℕ) (k : ℕ) → Distinct found → k < length found → stateOf (getD found k 0) found ≡ k
 unfolding stateOf
 distinct-state [] k d h = absurd (omega arith)

@@ -40,10 +40,6 @@ pub and-right : (a b : Bool) → a && b ≡ true → b ≡ true
 and-right true b h = h
 and-right false b h = absurd (true≢false (sym h))
 
-pub true-or-false : (t : Bool) → (t ≡ true) ⊎ (t ≡ false)
-true-or-false true = inl refl
-true-or-false false = inr refl
-
 -- ---- one bit of a union, of an intersection
 bit-or : (x y : ℕ) → x < 2 → y < 2 → eqb (bitOr x y) 1 ≡ eqb x 1 || eqb y 1
 bit-or zero zero h k = refl

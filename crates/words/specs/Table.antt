@@ -51,7 +51,7 @@ pub record Fits (d : Declared) : Type 0 where
 module _ (anew : Bool) (d : Declared) (t : Parsed) (g : Found) (fits : Fits d)
     (few : length (g .sets) ≤ mostStates) (through : Through anew (t .pattern) (length (d .events)) (length (g .sets)) g) where
   pub next-entry : (s e : ℕ) → s < length (g .sets) → e < length (d .events)
-      → nextState (propertyOf d t g) s e ≡ entryOf anew (t .pattern) (length (d .events)) g s e
+      → nextState (propertyOf d t g) s e ≡ entryOf g s e
   unfolding propertyOf nextState
   next-entry s e l b =
       let f = fits .fewEvents in
@@ -107,11 +107,11 @@ module _ (anew : Bool) (d : Declared) (t : Parsed) (g : Found) (fits : Fits d)
   state-from-walk p s (e ∷ w) = state-from-walk p (nextState p s e) w
 
   pub state-after-walk : (w : List ℕ) → Among (length (d .events)) w
-      → stateAfter (propertyOf d t g) w ≡ walk (entryOf anew (t .pattern) (length (d .events)) g) 0 w
+      → stateAfter (propertyOf d t g) w ≡ walk (entryOf g) 0 w
   unfolding stateAfter
   state-after-walk w a =
       state-from-walk (propertyOf d t g) 0 w
-      ∙ walk-same (length (g .sets)) (length (d .events)) (nextState (propertyOf d t g)) (entryOf anew (t .pattern) (length (d .events)) g)
+      ∙ walk-same (length (g .sets)) (length (d .events)) (nextState (propertyOf d t g)) (entryOf g)
       (λ s e l b. (next-entry s e l b, through .entry s l e b .below)) 0 w (states-some anew (t .pattern) (length (d .events)) g through) a
 
   pub verdict-after : (w : List ℕ) → Among (length (d .events)) w
