@@ -7,31 +7,13 @@ use native.Mathlib.Omega.{arith}
 use mathlib.Core.Path.{_≡_, refl, sym, ap, _∙_}
 use mathlib.Core.Bool.{Bool, true, false, cond}
 use mathlib.Core.List.{List, [], _∷_, _++_, append-assoc}
-use lib.Dec.{eqb}
 use Rattle.document.specs.Classes.{opening, closing, colon, ereWord, epsilonWord}
 use Rattle.document.specs.Classes as byte
 use Rattle.document.specs.Lists.{equal}
 use Rattle.document.specs.Patterns.{Pattern}
-use Rattle.document.specs.Tokens.{Token, word, mark, ask, noToken, isMarkOf, isWordOf}
+use Rattle.document.specs.Tokens.{Token, word, mark, isMarkOf, isWordOf}
 use Rattle.document.specs.Grammar.{Kind, Reads, one-sequence, either, one-repetition, beside, one-atom, starred, plussed, event, empty, grouped, Asks, just-match, just-fail, match-fail, fail-match, Whole, Dead}
-
--- what a token is to a reader of a pattern
-pub data Sort : Type 0 where
-  aName opens closes bars repeats asksMatch asksFail others : Sort
-
-abbrev pub sortOfMark : ℕ → Sort
-sortOfMark c =
-    cond (eqb c opening) opens
-    (cond (eqb c closing) closes
-    (cond (eqb c byte.bar) bars
-    (cond (eqb c byte.star) repeats
-    (cond (eqb c byte.plus) repeats others))))
-
-abbrev pub sortOf : Token → Sort
-sortOf (word w) = aName
-sortOf (mark c) = sortOfMark c
-sortOf (ask v) = cond (eqb v 1) asksMatch (cond (eqb v 2) asksFail others)
-sortOf noToken = others
+use Rattle.grammar.specs.Sorts.{Sort, aName, opens, closes, bars, repeats, asksMatch, asksFail, others, sortOf}
 
 -- before `ere`; before `:`; where an atom must stand, and after a repetition, with the number of open parentheses; after one
 -- verdict asked for and after both; where nothing can follow

@@ -1,2 +1,4 @@
 pub mod Words
+pub mod Sorts
 pub mod Automaton
+pub mod Phrases
