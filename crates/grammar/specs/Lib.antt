@@ -4,3 +4,7 @@ pub mod Automaton
 pub mod Phrases
 pub mod Viable
 pub mod Complete
+pub mod Judge
+pub mod Agree
+pub mod Atoms
+pub mod Readers
