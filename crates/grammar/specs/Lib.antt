@@ -8,3 +8,5 @@ pub mod Judge
 pub mod Agree
 pub mod Atoms
 pub mod Readers
+pub mod Here
+pub mod Checks
