@@ -10,3 +10,4 @@ pub mod Atoms
 pub mod Readers
 pub mod Here
 pub mod Checks
+pub mod FirstFaults
