@@ -11,3 +11,8 @@ pub mod Readers
 pub mod Here
 pub mod Checks
 pub mod FirstFaults
+pub mod Proper
+pub mod Asking
+pub mod Text
+pub mod Single
+pub mod Parsing
