@@ -5,6 +5,7 @@
 use Prim.Native.Nat.{ℕ, zero, suc, _+_, _≤_}
 use native.Mathlib.Omega.{arith}
 use mathlib.Core.Path.{_≡_, refl, sym, ap, _∙_}
+use mathlib.Core.Logic.{_⊎_, inl, inr}
 use mathlib.Core.Bool.{Bool, true, false, cond}
 use mathlib.Core.List.{List, [], _∷_, _++_, append-assoc}
 use Rattle.document.specs.Classes.{opening, closing, colon, ereWord, epsilonWord}
@@ -13,6 +14,7 @@ use Rattle.document.specs.Lists.{equal}
 use Rattle.document.specs.Patterns.{Pattern}
 use Rattle.document.specs.Tokens.{Token, word, mark, isMarkOf, isWordOf}
 use Rattle.document.specs.Grammar.{Kind, Reads, one-sequence, either, one-repetition, beside, one-atom, starred, plussed, event, empty, grouped, Asks, just-match, just-fail, match-fail, fail-match, Whole, Dead}
+use Rattle.grammar.specs.Words.{not-both}
 use Rattle.grammar.specs.Sorts.{Sort, aName, opens, closes, bars, repeats, asksMatch, asksFail, others, sortOf}
 
 -- before `ere`; before `:`; where an atom must stand, and after a repetition, with the number of open parentheses; after one
@@ -102,6 +104,30 @@ run-append s (t ∷ ts) us = run-append (step s t) ts us
 pub run-stuck : (ts : List Token) → run stuck ts ≡ stuck
 run-stuck [] = refl
 run-stuck (t ∷ ts) = run-stuck ts
+
+-- stuck or not
+abbrev isStuck : State → Bool
+isStuck atStart = false
+isStuck atColon = false
+isStuck (expecting d) = false
+isStuck (after d) = false
+isStuck matchAsked = false
+isStuck failAsked = false
+isStuck bothAsked = false
+isStuck stuck = true
+
+unstuck : {s : State} → isStuck s ≡ false → s ≡ stuck → ⊥
+unstuck {s} p e = not-both (isStuck s) (ap isStuck e) p
+
+pub stuck-or-not : (s : State) → (s ≡ stuck) ⊎ (s ≡ stuck → ⊥)
+stuck-or-not atStart = inr (unstuck refl)
+stuck-or-not atColon = inr (unstuck refl)
+stuck-or-not (expecting d) = inr (unstuck refl)
+stuck-or-not (after d) = inr (unstuck refl)
+stuck-or-not matchAsked = inr (unstuck refl)
+stuck-or-not failAsked = inr (unstuck refl)
+stuck-or-not bothAsked = inr (unstuck refl)
+stuck-or-not stuck = inl refl
 
 -- an atom may begin: where one must stand, and beside a repetition
 pub data Ready (d : ℕ) : State → Type 0 where

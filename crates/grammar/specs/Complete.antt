@@ -12,9 +12,9 @@ use Rattle.document.specs.Patterns.{Pattern}
 use Rattle.document.specs.Tokens.{Token, word, mark, ask}
 use Rattle.document.specs.Grammar.{Asks, just-match, just-fail, match-fail, fail-match, Whole, Dead}
 use Rattle.grammar.specs.Sorts.{is-name, is-closing}
-use Rattle.grammar.specs.Automaton.{State, atStart, atColon, expecting, after, matchAsked, failAsked, bothAsked, stuck, askedAt}
+use Rattle.grammar.specs.Automaton.{State, atStart, atColon, expecting, after, matchAsked, failAsked, bothAsked, stuck, stuck-or-not, step, run, askedAt, stuck-dead}
 use Rattle.grammar.specs.Phrases.{Levels, Repeated}
-use Rattle.grammar.specs.Viable.{Inside, Asked, Viable, asked-first, from-start, from-colon, from-expecting, from-after}
+use Rattle.grammar.specs.Viable.{counted, Inside, Asked, Viable, viable-next, asked-first, from-start, from-colon, from-expecting, from-after}
 
 module _ (declared : List (List ℕ)) where
   -- a text that completes the grammar after the tokens
@@ -50,7 +50,7 @@ module _ (declared : List (List ℕ)) where
   complete-colon : (ts : List Token) → ts ≡ word ereWord ∷ [] → Completed ts
   complete-colon ts h = completed-before (mark colon) (complete-expecting 0 0 (ts ++ (mark colon ∷ [])) (from-colon declared ts (mark colon) h))
 
-  complete-start : (ts : List Token) → ts ≡ [] → Completed ts
+  pub complete-start : (ts : List Token) → ts ≡ [] → Completed ts
   unfolding equal
   complete-start ts h = completed-before (word ereWord) (complete-colon (ts ++ (word ereWord ∷ [])) (from-start declared ts (word ereWord) h))
 
@@ -90,3 +90,21 @@ module _ (declared : List (List ℕ)) where
   viable-ended bothAsked n ts q (inl h) = asked-ended h match-fail
   viable-ended bothAsked n ts q (inr h) = asked-ended h fail-match
   viable-ended stuck n ts q h = absurd (omega arith)
+
+  -- what is known after any tokens
+  record Reached (s : State) (ts : List Token) : Type 0 where
+    pub names : ℕ
+    pub viable : Viable declared s names ts
+
+  run-viable : (us : List Token) (s : State) (n : ℕ) (ts : List Token) → Viable declared s n ts → Reached (run s us) (ts ++ us)
+  run-viable [] s n ts h = record { names = n; viable = rw append-nil h }
+  run-viable (t ∷ us) s n ts h =
+      subst (Reached (run (step s t) us)) (append-assoc ts (t ∷ []) us) (run-viable us (step s t) (counted s n t) (ts ++ (t ∷ [])) (viable-next declared s n ts t h))
+
+  -- no text could complete the grammar after the tokens, or this one does
+  pub dead-or-completed : (ts : List Token) → Dead declared ts ⊎ Completed ts
+  dead-or-completed ts = go (stuck-or-not (run atStart ts)) (run-viable ts atStart 0 [] refl)
+    where
+      go : (run atStart ts ≡ stuck) ⊎ (run atStart ts ≡ stuck → ⊥) → Reached (run atStart ts) ts → Dead declared ts ⊎ Completed ts
+      go (inl k) h = inl (stuck-dead declared ts k)
+      go (inr k) h = inr (viable-completed (run atStart ts) (h .names) ts k (h .viable))

@@ -13,12 +13,12 @@ use Rattle.document.specs.Patterns.{Pattern}
 use Rattle.document.specs.Refusals.{Refusal, notOfGrammar, number}
 use Rattle.document.specs.Tokens.{Token, Lexeme}
 use Rattle.document.specs.Grammar.{Whole, Fault, dead, unfinished, undeclared, oneTooMany, oneTooDeep, FirstFault}
-use Rattle.grammar.specs.Automaton.{State, atStart, atColon, expecting, after, matchAsked, failAsked, bothAsked, stuck, step, run, run-append, askedAt, whole-asked, whole-asks}
+use Rattle.grammar.specs.Automaton.{State, atStart, atColon, expecting, after, matchAsked, failAsked, bothAsked, stuck, stuck-or-not, step, run, run-append, askedAt, whole-asked, whole-asks}
 use Rattle.grammar.specs.Viable.{counted, Viable, viable-next}
 use Rattle.grammar.specs.Complete.{Ended, viable-ended}
 use Rattle.grammar.specs.Judge.{Check, fine, faulty, Judged, passes, stops, firstOf, judgedBy, endedWith, limitCheck, judge}
 use Rattle.grammar.specs.Agree.{tokens, tokens-append}
-use Rattle.grammar.specs.Here.{Here, stuck-or-not, fault-here, here-fault}
+use Rattle.grammar.specs.Here.{Here, fault-here, here-fault}
 use Rattle.grammar.specs.Checks.{Right, stuck-right, limit-right}
 
 tokens-length : (ls : List Lexeme) → length (tokens ls) ≡ length ls
@@ -50,7 +50,7 @@ module _ (declared : List (List ℕ)) where
   Outcome all (stops q left) = Stopped all q left
 
   -- a fault never comes past the end, and 6 has the lowest number
-  fault-within : {ts : List Token} {i : ℕ} {q : Refusal} → Fault declared ts i q → i ≤ length ts
+  pub fault-within : {ts : List Token} {i : ℕ} {q : Refusal} → Fault declared ts i q → i ≤ length ts
   fault-within (dead l e) = omega arith
   fault-within (unfinished e) = omega arith
   fault-within (undeclared b l e f g) = omega arith
@@ -132,7 +132,7 @@ module _ (declared : List (List ℕ)) where
   judge-outcome [] s n all before e v r clean =
       let p : before ≡ all = sym (e ∙ append-nil before) in
       at-end s n all (subst (λ y. Viable declared s n (tokens y)) p v) (ap (λ y. run atStart (tokens y)) (sym p) ∙ r) (subst (λ y. Clean (tokens all) (length y)) p clean)
-  judge-outcome (x ∷ more) s n all before e v r clean = go (stuck-or-not declared (step s (x .token))) (judge-outcome more (step s (x .token)) (counted s n (x .token)) all (before ++ (x ∷ [])))
+  judge-outcome (x ∷ more) s n all before e v r clean = go (stuck-or-not (step s (x .token))) (judge-outcome more (step s (x .token)) (counted s n (x .token)) all (before ++ (x ∷ [])))
     where
       go : (step s (x .token) ≡ stuck) ⊎ (step s (x .token) ≡ stuck → ⊥)
           → (all ≡ (before ++ (x ∷ [])) ++ more → Viable declared (step s (x .token)) (counted s n (x .token)) (tokens (before ++ (x ∷ [])))

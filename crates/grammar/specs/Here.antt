@@ -4,7 +4,7 @@ use Prim.Native.Nat.{ℕ, zero, suc, _+_, _-_, _≤_, _<_}
 use native.Mathlib.Omega.{arith}
 use mathlib.Core.Path.{_≡_, refl, sym, ap, subst, _∙_}
 use mathlib.Core.Logic.{_⊎_, inl, inr}
-use mathlib.Core.Bool.{Bool, true, false}
+use mathlib.Core.Bool.{Bool}
 use mathlib.Core.List.{List, [], _∷_, _++_}
 use lib.ListN.{length, getD, take, length-append}
 use lib.Seq.{take-append-seam, getD-append-seam}
@@ -15,8 +15,7 @@ use Rattle.document.specs.Lists.{In, keepIf}
 use Rattle.document.specs.Refusals.{Refusal, notOfGrammar, undeclaredEvent, tooManyNames, tooDeep}
 use Rattle.document.specs.Tokens.{Token, word, mark, noToken, isMarkOf}
 use Rattle.document.specs.Grammar.{Dead, isEventName, namesIn, openIn, Fault, dead, unfinished, undeclared, oneTooMany, oneTooDeep}
-use Rattle.grammar.specs.Words.{not-both}
-use Rattle.grammar.specs.Automaton.{State, atStart, atColon, expecting, after, matchAsked, failAsked, bothAsked, stuck, step, run, run-append, stuck-dead}
+use Rattle.grammar.specs.Automaton.{State, atStart, stuck, stuck-or-not, step, run, run-append, stuck-dead}
 use Rattle.grammar.specs.Viable.{counted, many, Inside, Viable, viable-next}
 use Rattle.grammar.specs.Complete.{viable-alive}
 
@@ -51,30 +50,6 @@ module _ (declared : List (List ℕ)) where
     here-undeclared : {w : List ℕ} → 2 ≤ length ts → t ≡ word w → (w ≡ epsilonWord → ⊥) → (In w declared → ⊥) → Here s ts t undeclaredEvent
     here-names : 2 ≤ length ts → T (isEventName t) → mostNames ≤ namesIn ts → Here s ts t tooManyNames
     here-deep : t ≡ mark opening → mostOpen ≤ openIn ts → Here s ts t tooDeep
-
-  -- stuck or not
-  abbrev isStuck : State → Bool
-  isStuck atStart = false
-  isStuck atColon = false
-  isStuck (expecting d) = false
-  isStuck (after d) = false
-  isStuck matchAsked = false
-  isStuck failAsked = false
-  isStuck bothAsked = false
-  isStuck stuck = true
-
-  unstuck : {s : State} → isStuck s ≡ false → s ≡ stuck → ⊥
-  unstuck {s} p e = not-both (isStuck s) (ap isStuck e) p
-
-  pub stuck-or-not : (s : State) → (s ≡ stuck) ⊎ (s ≡ stuck → ⊥)
-  stuck-or-not atStart = inr (unstuck refl)
-  stuck-or-not atColon = inr (unstuck refl)
-  stuck-or-not (expecting d) = inr (unstuck refl)
-  stuck-or-not (after d) = inr (unstuck refl)
-  stuck-or-not matchAsked = inr (unstuck refl)
-  stuck-or-not failAsked = inr (unstuck refl)
-  stuck-or-not bothAsked = inr (unstuck refl)
-  stuck-or-not stuck = inl refl
 
   -- from a fault of the text at the token to what it says of the token, and back
   pub fault-here : {j : ℕ} {q : Refusal} (s : State) (n : ℕ) (ts us : List Token) (t : Token) → Viable declared s n ts
