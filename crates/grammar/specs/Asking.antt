@@ -1,10 +1,10 @@
 -- Document 01, "then `@match`, `@fail` or both, each once, in either order": the reader of what follows a pattern agrees with the
 -- judge, and what it takes is a pattern with the verdicts that it asks for.
 -- Assumes nothing.
-use Prim.Native.Nat.{ℕ, zero, suc, _+_}
+use Prim.Native.Nat.{ℕ, _+_}
 use mathlib.Core.Path.{_≡_, refl, ap, subst, _∙_}
 use mathlib.Core.Logic.{_⊎_, inl, inr}
-use mathlib.Core.Bool.{Bool, true, false}
+use mathlib.Core.Bool.{true, false}
 use mathlib.Core.List.{List, [], _∷_, _++_}
 use lib.Dec.{eqb}
 use Rattle.document.specs.Patterns.{Pattern}

@@ -1,18 +1,18 @@
 -- Document 01, "An atom is an event name, `epsilon` (the empty word), or an alternative in parentheses": the reader of atoms agrees
 -- with the judge, given that the reader inside the parentheses does.
 -- Assumes nothing.
-use Prim.Native.Nat.{ℕ, zero, suc, _<_}
+use Prim.Native.Nat.{ℕ, suc, _<_}
 use native.Mathlib.Omega.{arith}
 use mathlib.Core.Path.{_≡_, refl, sym, ap, subst, _∙_}
 use mathlib.Core.Logic.{_⊎_, inl, inr}
-use mathlib.Core.Bool.{Bool, true, false}
+use mathlib.Core.Bool.{true, false}
 use mathlib.Core.List.{List, [], _∷_, _++_, append-assoc}
 use lib.ListN.{length}
-use lib.Dec.{eqb, ltb}
+use lib.Dec.{ltb}
 use Rattle.document.specs.Classes.{opening, epsilonWord}
 use Rattle.document.specs.Limits.{mostNames, mostOpen}
 use Rattle.document.specs.Lists.{equal, placeOf}
-use Rattle.document.specs.Patterns.{Pattern, epsilon}
+use Rattle.document.specs.Patterns.{epsilon}
 use Rattle.document.specs.Tokens.{Token, word, mark, ask, noToken, Lexeme}
 use Rattle.document.specs.Grammar.{alternatives, atoms, Reads, event, empty, grouped}
 use Rattle.document.specs.Reading.{Reading, read, stopped, closed, readName, atomOf, readAtomIn}
@@ -69,8 +69,10 @@ module _ (declared : List (List ℕ)) where
           record {
             upto = record {
               front = record { token = mark opening; at = a } ∷ (g .upto .front ++ (record { token = t; at = b } ∷ []));
-              is = ap (λ x. record { token = mark opening; at = a } ∷ x) (g .upto .is ∙ sym (append-assoc (g .upto .front) (record { token = t; at = b } ∷ []) left));
-              reads = subst (λ x. Reads declared atoms n m (mark opening ∷ x) r) (sym (tokens-append (g .upto .front) (record { token = t; at = b } ∷ []))) (grouped (g .upto .reads));
+              is = ap (λ x. record { token = mark opening; at = a } ∷ x)
+                  (g .upto .is ∙ sym (append-assoc (g .upto .front) (record { token = t; at = b } ∷ []) left));
+              reads = subst (λ x. Reads declared atoms n m (mark opening ∷ x) r)
+                  (sym (tokens-append (g .upto .front) (record { token = t; at = b } ∷ []))) (grouped (g .upto .reads));
               goes = rw e (g .upto .goes);
               shorter = let l = g .upto .shorter in omega arith;
             };
@@ -106,7 +108,8 @@ module _ (declared : List (List ℕ)) where
       go t a is-opening g = deep (decided (ltb d mostOpen))
         where
           deep : (ltb d mostOpen ≡ true) ⊎ (ltb d mostOpen ≡ false)
-              → Agrees declared atoms d n (record { token = mark opening; at = a } ∷ more) (atomOf declared inside d n (record { token = mark opening; at = a } ∷ more) more (mark opening))
+              → Agrees declared atoms d n (record { token = mark opening; at = a } ∷ more)
+              (atomOf declared inside d n (record { token = mark opening; at = a } ∷ more) more (mark opening))
           deep (inl e) = rw (e, atomOf) (closed-agrees d n a more (inside n more) e g)
           deep (inr e) = rw (e, atomOf) (rw e)
       go t a is-closing g = refl

@@ -2,12 +2,12 @@
 -- follow, and no limit counts in it. Every text of the grammar passes it, so that where it is stuck no text completes the
 -- grammar. It is the bridge between the grammar (a statement) and the readers (a procedure).
 -- Assumes nothing.
-use Prim.Native.Nat.{ℕ, zero, suc, _+_, _≤_}
+use Prim.Native.Nat.{ℕ, zero, suc, _≤_}
 use native.Mathlib.Omega.{arith}
 use mathlib.Core.Path.{_≡_, refl, sym, ap, _∙_}
 use mathlib.Core.Logic.{_⊎_, inl, inr}
 use mathlib.Core.Bool.{Bool, true, false, cond}
-use mathlib.Core.List.{List, [], _∷_, _++_, append-assoc}
+use mathlib.Core.List.{List, [], _∷_, _++_}
 use Rattle.document.specs.Classes.{opening, closing, colon, ereWord, epsilonWord}
 use Rattle.document.specs.Classes as byte
 use Rattle.document.specs.Lists.{equal}
@@ -155,7 +155,8 @@ module _ (declared : List (List ℕ)) where
   run-phrase (event {w = w} n) b = name-from w b
   run-phrase empty b = name-from epsilonWord b
   run-phrase {d = d} (grouped {ts = ts} p) b =
-      ap (λ x. run x (ts ++ (mark closing ∷ []))) (opening-from b) ∙ run-append (expecting (suc d)) ts (mark closing ∷ []) ∙ ap (λ x. run x (mark closing ∷ [])) (run-phrase {d = suc d} p first)
+      ap (λ x. run x (ts ++ (mark closing ∷ []))) (opening-from b) ∙ run-append (expecting (suc d)) ts (mark closing ∷ [])
+      ∙ ap (λ x. run x (mark closing ∷ [])) (run-phrase {d = suc d} p first)
 
   run-asks : {ts : List Token} {a : ℕ} → Asks declared ts a → askedAt (run (after 0) ts) ≡ a
   run-asks just-match = refl

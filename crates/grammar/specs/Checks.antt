@@ -1,21 +1,21 @@
 -- Document 01, "at one offset 6 before 7 before 8 before 9": what the judge finds at one token is the fault that comes first
 -- there, and it finds none only where there is none.
 -- Assumes nothing.
-use Prim.Native.Nat.{ℕ, zero, suc, _≤_, _<_}
+use Prim.Native.Nat.{ℕ, _≤_, _<_}
 use native.Mathlib.Omega.{arith}
 use mathlib.Core.Path.{_≡_, refl, sym, ap, _∙_}
 use mathlib.Core.Logic.{_⊎_, inl, inr}
-use mathlib.Core.Bool.{Bool, true, false, not, cond}
-use mathlib.Core.List.{List, [], _∷_}
+use mathlib.Core.Bool.{true, false}
+use mathlib.Core.List.{List}
 use lib.ListN.{length}
-use lib.Dec.{T, eqb, ltb}
+use lib.Dec.{eqb, ltb}
 use borrow.Author.Tests.{eqb-true, ltb-true, ltb-false}
-use Rattle.document.specs.Classes.{opening, epsilonWord, ereWord}
+use Rattle.document.specs.Classes.{opening, epsilonWord}
 use Rattle.document.specs.Limits.{mostNames, mostOpen}
-use Rattle.document.specs.Lists.{In, keepIf, equal, placeOf}
-use Rattle.document.specs.Refusals.{Refusal, notOfGrammar, undeclaredEvent, tooManyNames, tooDeep, number}
+use Rattle.document.specs.Lists.{keepIf, equal, placeOf}
+use Rattle.document.specs.Refusals.{Refusal, notOfGrammar, number}
 use Rattle.document.specs.Tokens.{Token, word, mark, ask, noToken}
-use Rattle.document.specs.Grammar.{isEventName, namesIn, openIn}
+use Rattle.document.specs.Grammar.{openIn}
 use Rattle.grammar.specs.Words.{decided, not-both, equal-same, equal-differs, in-place, place-in}
 use Rattle.grammar.specs.Sorts.{View, is-name, is-opening, is-closing, is-bar, is-star, is-plus, is-match, is-fail, is-other, view}
 use Rattle.grammar.specs.Automaton.{State, atStart, atColon, expecting, after, matchAsked, failAsked, bothAsked, stuck, step}

@@ -45,7 +45,8 @@ module _ (declared : List (List ℕ)) where
   complete-after (suc d) n ts h = completed-before (mark closing) (complete-after d n (ts ++ (mark closing ∷ [])) (from-after declared (suc d) n ts is-closing h))
 
   complete-expecting : (d n : ℕ) (ts : List Token) → Inside (Levels declared d) d n ts → Completed ts
-  complete-expecting d n ts h = completed-before (word epsilonWord) (complete-after d _ (ts ++ (word epsilonWord ∷ [])) (from-expecting declared d n ts (is-name epsilonWord) h))
+  complete-expecting d n ts h =
+      completed-before (word epsilonWord) (complete-after d _ (ts ++ (word epsilonWord ∷ [])) (from-expecting declared d n ts (is-name epsilonWord) h))
 
   complete-colon : (ts : List Token) → ts ≡ word ereWord ∷ [] → Completed ts
   complete-colon ts h = completed-before (mark colon) (complete-expecting 0 0 (ts ++ (mark colon ∷ [])) (from-colon declared ts (mark colon) h))
@@ -99,7 +100,8 @@ module _ (declared : List (List ℕ)) where
   run-viable : (us : List Token) (s : State) (n : ℕ) (ts : List Token) → Viable declared s n ts → Reached (run s us) (ts ++ us)
   run-viable [] s n ts h = record { names = n; viable = rw append-nil h }
   run-viable (t ∷ us) s n ts h =
-      subst (Reached (run (step s t) us)) (append-assoc ts (t ∷ []) us) (run-viable us (step s t) (counted s n t) (ts ++ (t ∷ [])) (viable-next declared s n ts t h))
+      subst (Reached (run (step s t) us)) (append-assoc ts (t ∷ []) us)
+      (run-viable us (step s t) (counted s n t) (ts ++ (t ∷ [])) (viable-next declared s n ts t h))
 
   -- no text could complete the grammar after the tokens, or this one does
   pub dead-or-completed : (ts : List Token) → Dead declared ts ⊎ Completed ts

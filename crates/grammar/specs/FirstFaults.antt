@@ -1,7 +1,7 @@
 -- Document 01, "Pattern: .. the lowest offset, at one offset 6 before 7 before 8 before 9": where the judge stops is the first
 -- fault of the text, and a text that it lets pass has none.
 -- Assumes nothing.
-use Prim.Native.Nat.{ℕ, zero, suc, _+_, _≤_, _<_}
+use Prim.Native.Nat.{ℕ, zero, suc, _≤_}
 use native.Mathlib.Omega.{arith}
 use mathlib.Core.Path.{_≡_, refl, sym, ap, subst, _∙_}
 use mathlib.Core.Logic.{_⊎_, inl, inr}
@@ -131,8 +131,10 @@ module _ (declared : List (List ℕ)) where
       → run atStart (tokens before) ≡ s → Clean (tokens all) (length before) → Outcome all (judge declared s n ls)
   judge-outcome [] s n all before e v r clean =
       let p : before ≡ all = sym (e ∙ append-nil before) in
-      at-end s n all (subst (λ y. Viable declared s n (tokens y)) p v) (ap (λ y. run atStart (tokens y)) (sym p) ∙ r) (subst (λ y. Clean (tokens all) (length y)) p clean)
-  judge-outcome (x ∷ more) s n all before e v r clean = go (stuck-or-not (step s (x .token))) (judge-outcome more (step s (x .token)) (counted s n (x .token)) all (before ++ (x ∷ [])))
+      at-end s n all (subst (λ y. Viable declared s n (tokens y)) p v) (ap (λ y. run atStart (tokens y)) (sym p) ∙ r)
+      (subst (λ y. Clean (tokens all) (length y)) p clean)
+  judge-outcome (x ∷ more) s n all before e v r clean =
+      go (stuck-or-not (step s (x .token))) (judge-outcome more (step s (x .token)) (counted s n (x .token)) all (before ++ (x ∷ [])))
     where
       go : (step s (x .token) ≡ stuck) ⊎ (step s (x .token) ≡ stuck → ⊥)
           → (all ≡ (before ++ (x ∷ [])) ++ more → Viable declared (step s (x .token)) (counted s n (x .token)) (tokens (before ++ (x ∷ [])))

@@ -1,10 +1,9 @@
 -- Document 01, "Numbers of refusal", 6 to 9: the faults of a text at one token, said of that token and of the tokens before it.
 -- Assumes nothing.
-use Prim.Native.Nat.{ℕ, zero, suc, _+_, _-_, _≤_, _<_}
+use Prim.Native.Nat.{ℕ, suc, _-_, _≤_, _<_}
 use native.Mathlib.Omega.{arith}
 use mathlib.Core.Path.{_≡_, refl, sym, ap, subst, _∙_}
 use mathlib.Core.Logic.{_⊎_, inl, inr}
-use mathlib.Core.Bool.{Bool}
 use mathlib.Core.List.{List, [], _∷_, _++_}
 use lib.ListN.{length, getD, take, length-append}
 use lib.Seq.{take-append-seam, getD-append-seam}
@@ -59,7 +58,8 @@ module _ (declared : List (List ℕ)) where
       go : (step s t ≡ stuck) ⊎ (step s t ≡ stuck → ⊥) → Here s ts t notOfGrammar
       go (inl k) = here-dead k
       go (inr k) =
-          absurd (viable-alive declared (step s t) (counted s n t) (ts ++ (t ∷ [])) k (viable-next declared s n ts t v) (subst (Dead declared) (ap (λ i. take (suc i) (ts ++ (t ∷ us))) p ∙ take-through ts us t) e))
+          absurd (viable-alive declared (step s t) (counted s n t) (ts ++ (t ∷ [])) k (viable-next declared s n ts t v)
+          (subst (Dead declared) (ap (λ i. take (suc i) (ts ++ (t ∷ us))) p ∙ take-through ts us t) e))
   fault-here s n ts us t v (unfinished e) p = let l = seam-inside ts us t in absurd (omega arith)
   fault-here s n ts us t v (undeclared {w = w} b l e f g) p =
       here-undeclared (rw p at b) (sym (getD-append-seam ts t us noToken) ∙ ap (λ i. getD (ts ++ (t ∷ us)) i noToken) (sym p) ∙ e) f g
@@ -70,11 +70,14 @@ module _ (declared : List (List ℕ)) where
       here-deep (sym (getD-append-seam ts t us noToken) ∙ ap (λ i. getD (ts ++ (t ∷ us)) i noToken) (sym p) ∙ e)
       (subst (λ x. mostOpen ≤ openIn x) (ap (λ i. take i (ts ++ (t ∷ us))) p ∙ take-append-seam ts (t ∷ us)) f)
 
-  pub here-fault : {q : Refusal} (s : State) (ts us : List Token) (t : Token) → run atStart ts ≡ s → Here s ts t q → Fault declared (ts ++ (t ∷ us)) (length ts) q
+  pub here-fault : {q : Refusal} (s : State) (ts us : List Token) (t : Token) → run atStart ts ≡ s → Here s ts t q
+      → Fault declared (ts ++ (t ∷ us)) (length ts) q
   here-fault s ts us t v (here-dead k) =
-      dead (seam-inside ts us t) (subst (Dead declared) (sym (take-through ts us t)) (stuck-dead declared (ts ++ (t ∷ [])) (run-append atStart ts (t ∷ []) ∙ rw v k)))
+      dead (seam-inside ts us t)
+      (subst (Dead declared) (sym (take-through ts us t)) (stuck-dead declared (ts ++ (t ∷ [])) (run-append atStart ts (t ∷ []) ∙ rw v k)))
   here-fault s ts us t v (here-undeclared b e f g) = undeclared b (seam-inside ts us t) (getD-append-seam ts t us noToken ∙ e) f g
   here-fault s ts us t v (here-names b e f) =
-      oneTooMany b (seam-inside ts us t) (subst (λ x. T (isEventName x)) (sym (getD-append-seam ts t us noToken)) e) (subst (λ x. mostNames ≤ namesIn x) (sym (take-append-seam ts (t ∷ us))) f)
+      oneTooMany b (seam-inside ts us t) (subst (λ x. T (isEventName x)) (sym (getD-append-seam ts t us noToken)) e)
+      (subst (λ x. mostNames ≤ namesIn x) (sym (take-append-seam ts (t ∷ us))) f)
   here-fault s ts us t v (here-deep e f) =
       oneTooDeep (seam-inside ts us t) (getD-append-seam ts t us noToken ∙ e) (subst (λ x. mostOpen ≤ openIn x) (sym (take-append-seam ts (t ∷ us))) f)

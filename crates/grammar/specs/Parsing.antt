@@ -6,8 +6,8 @@ use Prim.Native.Nat.{ℕ, zero, suc, _≤_, _<_}
 use native.Mathlib.Omega.{arith}
 use mathlib.Core.Path.{_≡_, refl, sym, ap, ap₂, subst, _∙_}
 use mathlib.Core.Logic.{_⊎_, inl, inr}
-use mathlib.Core.Bool.{Bool, true, false, cond}
-use mathlib.Core.List.{List, [], _∷_}
+use mathlib.Core.Bool.{cond}
+use mathlib.Core.List.{List, []}
 use lib.ListN.{length, take, drop}
 use lib.Dec.{eqb}
 use Rattle.document.specs.Patterns.{Pattern}
@@ -55,8 +55,8 @@ module _ (declared : List (List ℕ)) where
     pub first-fault-before : {i : ℕ} {q : Refusal} → FirstFault declared ts i q → Completed declared (take i ts)
     first-fault-before {i} {q} f = go i (f .lowest) (fault-within declared (f .fault))
       where
-        alive : (j : ℕ) → ((k : ℕ) (p : Refusal) → Fault declared ts k p → suc j ≤ k) → j < length ts → Dead declared (take (suc j) ts) ⊎ Completed declared (take (suc j) ts)
-            → Completed declared (take (suc j) ts)
+        alive : (j : ℕ) → ((k : ℕ) (p : Refusal) → Fault declared ts k p → suc j ≤ k) → j < length ts
+            → Dead declared (take (suc j) ts) ⊎ Completed declared (take (suc j) ts) → Completed declared (take (suc j) ts)
         alive j lowest l (inl e) = let k = lowest j notOfGrammar (dead l e) in absurd (omega arith)
         alive j lowest l (inr c) = c
 
@@ -123,7 +123,8 @@ module _ (declared : List (List ℕ)) where
         go (refused q at) e = let h = parse-refused-first e in absurd (n (h .index) q (h .first .fault))
 
     -- a first fault refuses
-    pub first-fault-parse : {i : ℕ} {q : Refusal} → FirstFault declared (tokensOf text) i q → parse declared text ≡ refused q (offsetOf text (drop i (lexemes text)))
+    pub first-fault-parse : {i : ℕ} {q : Refusal} → FirstFault declared (tokensOf text) i q
+        → parse declared text ≡ refused q (offsetOf text (drop i (lexemes text)))
     first-fault-parse {i} {q} f = go (parse declared text) refl
       where
         go : (x : Answer Parsed) → parse declared text ≡ x → parse declared text ≡ refused q (offsetOf text (drop i (lexemes text)))

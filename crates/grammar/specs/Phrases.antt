@@ -1,17 +1,17 @@
 -- Document 01, "The pattern text": the beginnings of a pattern that can be completed, by what is still open at each level of
 -- parentheses; and how each token that may follow leads from one beginning to the next.
 -- Assumes nothing.
-use Prim.Native.Nat.{ℕ, zero, suc}
+use Prim.Native.Nat.{ℕ, suc}
 use mathlib.Core.Path.{_≡_, refl, sym, ap, subst, _∙_}
 use mathlib.Core.Logic.{_⊎_, inl, inr}
-use mathlib.Core.Bool.{Bool, true, false}
-use mathlib.Core.List.{List, [], _∷_, _++_, append-assoc, append-nil}
+use mathlib.Core.Bool.{true, false}
+use mathlib.Core.List.{List, [], _∷_, _++_, append-assoc}
 use Rattle.document.specs.Classes.{opening, closing, epsilonWord}
 use Rattle.document.specs.Classes as byte
 use Rattle.document.specs.Lists.{equal, placeOf}
-use Rattle.document.specs.Patterns.{Pattern, epsilon, name, alternative, sequence, star, plus}
+use Rattle.document.specs.Patterns.{Pattern, epsilon, name, star, plus}
 use Rattle.document.specs.Tokens.{Token, word, mark}
-use Rattle.document.specs.Grammar.{Kind, alternatives, sequences, repetitions, atoms, Reads, one-sequence, either, one-repetition, beside, one-atom, starred, plussed, event, empty, grouped}
+use Rattle.document.specs.Grammar.{Kind, alternatives, repetitions, atoms, Reads, one-sequence, either, one-repetition, beside, one-atom, starred, plussed, event, empty, grouped}
 use Rattle.grammar.specs.Words.{decided, equal-same, equal-differs}
 
 module _ (declared : List (List ℕ)) where
@@ -79,7 +79,8 @@ module _ (declared : List (List ℕ)) where
   level-bar : {ts us : List Token} → Level ts → Anywhere repetitions us → Level (ts ++ (us ++ (mark byte.bar ∷ [])))
   level-bar {ts} {us} l p =
       record {
-        fill = λ vs q. subst (Anywhere alternatives) (sym (append-assoc ts (us ++ (mark byte.bar ∷ [])) vs ∙ ap (λ x. ts ++ x) (append-assoc us (mark byte.bar ∷ []) vs)))
+        fill = λ vs q. subst (Anywhere alternatives)
+            (sym (append-assoc ts (us ++ (mark byte.bar ∷ [])) vs ∙ ap (λ x. ts ++ x) (append-assoc us (mark byte.bar ∷ []) vs)))
             (l .fill (us ++ (mark byte.bar ∷ vs)) (bar-alternative p q));
       }
 
@@ -135,7 +136,8 @@ module _ (declared : List (List ℕ)) where
       go : {context : List Token} → Levels (suc d) context → ts ≡ context ++ h .last → Repeated d (ts ++ (mark closing ∷ []))
       go (inner {ts = u} {us = v} s l) e =
           subst (Repeated d)
-          (sym (ap (λ x. x ++ (mark closing ∷ [])) e ∙ ap (λ x. x ++ (mark closing ∷ [])) (append-assoc u (mark opening ∷ v) (h .last)) ∙ append-assoc u (mark opening ∷ (v ++ h .last)) (mark closing ∷ [])))
+          (sym (ap (λ x. x ++ (mark closing ∷ [])) (e ∙ append-assoc u (mark opening ∷ v) (h .last))
+          ∙ append-assoc u (mark opening ∷ (v ++ h .last)) (mark closing ∷ [])))
           (repeated-atom s (group-atom (l .fill (h .last) (repetition-alternative (h .reads)))))
 
   -- outside all parentheses it is a whole pattern

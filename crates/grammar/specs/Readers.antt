@@ -4,7 +4,7 @@
 use Prim.Native.Nat.{ℕ, zero, suc, _+_, _*_, _≤_, _<_}
 use native.Mathlib.Omega.{arith}
 use mathlib.Core.Path.{_≡_, refl, sym, ap, subst, _∙_}
-use mathlib.Core.Bool.{Bool, false}
+use mathlib.Core.Bool.{false}
 use mathlib.Core.List.{List, [], _∷_, _++_, append-assoc}
 use lib.ListN.{length, length-append}
 use Rattle.document.specs.Classes as byte
@@ -33,7 +33,8 @@ module _ (declared : List (List ℕ)) where
         shorter = let l = h .shorter in omega arith;
       }
 
-  marked-agrees : (d n m : ℕ) (ls left : List Lexeme) (r : Pattern) → Upto declared repetitions d n ls r left m → Agrees declared repetitions d n ls (marked r left m)
+  marked-agrees : (d n m : ℕ) (ls left : List Lexeme) (r : Pattern) → Upto declared repetitions d n ls r left m
+      → Agrees declared repetitions d n ls (marked r left m)
   unfolding marked
   marked-agrees d n m ls [] r h = record { upto = h; ends = record { no-star = refl; no-plus = refl } }
   marked-agrees d n m ls (x ∷ left) r h = go (x .token) (x .at) (view (x .token)) h (marked-agrees d n m ls left (star r)) (marked-agrees d n m ls left (plus r))
@@ -69,7 +70,8 @@ module _ (declared : List (List ℕ)) where
   -- a phrase, the tokens between, and what was read after them
   joined-agrees : (k j : Kind) (d n m : ℕ) (ls left between rest : List Lexeme) (op : Pattern → Pattern → Pattern) (r : Pattern) (R : Reading)
       → Upto declared j d n ls r left m → left ≡ between ++ rest → judge declared (after d) m left ≡ judge declared (expecting d) m rest
-      → ((us vs : List Token) (hi : ℕ) (b : Pattern) → Reads declared j n m us r → Reads declared k m hi vs b → Reads declared k n hi (us ++ (tokens between ++ vs)) (op r b))
+      → ((us vs : List Token) (hi : ℕ) (b : Pattern) → Reads declared j n m us r → Reads declared k m hi vs b
+      → Reads declared k n hi (us ++ (tokens between ++ vs)) (op r b))
       → Agrees declared k d m rest R → Agrees declared k d n ls (joinReading op r R)
   joined-agrees k j d n m ls left between rest op r (stopped q end) h e g f a = h .goes ∙ g ∙ a
   joined-agrees k j d n m ls left between rest op r (read b end hi) h e g f a =
@@ -143,8 +145,8 @@ module _ (declared : List (List ℕ)) where
       next : (t : Token) (a : ℕ) (end : List Lexeme) → View t → Got declared sequences d n ls r (record { token = t; at = a } ∷ end) m
           → Agrees declared alternatives d n ls (moreAlternatives again (read r (record { token = t; at = a } ∷ end) m))
       next t a end is-bar g =
-          joined-agrees alternatives sequences d n m ls (record { token = t; at = a } ∷ end) (record { token = t; at = a } ∷ []) end alternative r (again m end) (g .upto) refl refl
-          (λ us vs hi b p q. either p q) (ih m end (let l = g .upto .shorter in omega arith))
+          joined-agrees alternatives sequences d n m ls (record { token = t; at = a } ∷ end) (record { token = t; at = a } ∷ []) end alternative r
+          (again m end) (g .upto) refl refl (λ us vs hi b p q. either p q) (ih m end (let l = g .upto .shorter in omega arith))
       next t a end (is-name w) g = ended _ g refl
       next t a end is-opening g = ended _ g refl
       next t a end is-closing g = ended _ g refl

@@ -1,8 +1,8 @@
 -- Document 01, "The pattern text": the grammar is unambiguous. A text of the grammar has one pattern and asks for one set of
 -- verdicts: a builder that goes through the tokens from the left ends with the pattern of every derivation.
 -- Assumes nothing.
-use Prim.Native.Nat.{ℕ, zero, suc}
-use mathlib.Core.Path.{_≡_, refl, sym, ap, ap₂, _∙_}
+use Prim.Native.Nat.{ℕ, suc}
+use mathlib.Core.Path.{_≡_, refl, sym, ap, _∙_}
 use mathlib.Core.Logic.{_⊎_, inl, inr}
 use mathlib.Core.Bool.{Bool, true, false, cond}
 use mathlib.Core.List.{List, [], _∷_, _++_}
@@ -15,7 +15,7 @@ use Rattle.document.specs.Patterns.{Pattern, epsilon, name, alternative, sequen
 use Rattle.document.specs.Tokens.{Token, word, mark, ask, noToken}
 use Rattle.document.specs.Grammar.{Kind, alternatives, sequences, repetitions, atoms, Reads, one-sequence, either, one-repetition, beside, one-atom, starred, plussed, event, empty, grouped, Asks, just-match, just-fail, match-fail, fail-match, Whole}
 use Rattle.grammar.specs.Words.{decided, equal-same}
-use Rattle.grammar.specs.Automaton.{atStart, run, askedAt, whole-asked}
+use Rattle.grammar.specs.Automaton.{whole-asked}
 
 -- what one level of parentheses holds so far: nothing in the sequence that is begun, or a last repetition in it. The first
 -- function says what the alternatives before make of the rest, the second what the repetitions before make of it.
@@ -50,6 +50,9 @@ valueOf (built A S p) = A (S p)
 record Desk : Type 0 where
   pub parts : List Part
   pub names : ℕ
+
+abbrev clear : Desk
+clear = record { parts = begun (λ q. q) ∷ []; names = 0 }
 
 abbrev atTop : (Part → Part) → List Part → List Part
 atTop f [] = []
@@ -198,14 +201,14 @@ module _ (declared : List (List ℕ)) where
 
   -- the pattern of a text, whatever its derivation
   abbrev patternOf : List Token → Pattern
-  patternOf ts = topOf (build (record { parts = begun (λ q. q) ∷ []; names = 0 }) (drop 2 ts) .parts)
+  patternOf ts = topOf (build clear (drop 2 ts) .parts)
 
   whole-pattern : {ts : List Token} {r : Pattern} {a : ℕ} → Whole declared ts r a → patternOf ts ≡ r
   whole-pattern {r = r} h =
       let g = build-phrase (h .reads) (begun (λ q. q)) [] in
       let e : valueOf (g .end) ≡ r = g .builds in
       ap patternOf (h .is)
-      ∙ ap (λ d. topOf (d .parts)) (build-append (record { parts = begun (λ q. q) ∷ []; names = 0 }) (h .body) (h .asks) ∙ build-asks (build (record { parts = begun (λ q. q) ∷ []; names = 0 }) (h .body)) (h .wants) ∙ g .is)
+      ∙ ap (λ d. topOf (d .parts)) (build-append clear (h .body) (h .asks) ∙ build-asks (build clear (h .body)) (h .wants) ∙ g .is)
       ∙ e
 
   pub whole-single-pattern : {ts : List Token} {r s : Pattern} {a b : ℕ} → Whole declared ts r a → Whole declared ts s b → r ≡ s

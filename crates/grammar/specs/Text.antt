@@ -2,25 +2,23 @@
 -- grammar.
 -- Assumes nothing.
 use Prim.Native.Nat.{ℕ}
-use mathlib.Core.Path.{_≡_, refl, sym, ap, ap₂, _∙_}
+use mathlib.Core.Path.{_≡_, refl, ap, ap₂, _∙_}
 use mathlib.Core.Logic.{_⊎_, inl, inr}
-use mathlib.Core.Bool.{Bool, true, false}
-use mathlib.Core.List.{List, [], _∷_, _++_}
-use lib.Dec.{eqb}
+use mathlib.Core.Bool.{true, false}
+use mathlib.Core.List.{List, [], _∷_}
 use borrow.Author.Tests.{eqb-true}
 use Rattle.document.specs.Classes.{colon, ereWord}
-use Rattle.document.specs.Lists.{equal}
-use Rattle.document.specs.Refusals.{Refusal, notOfGrammar, Answer, taken, refused}
+use Rattle.document.specs.Refusals.{notOfGrammar, Answer, taken, refused}
 use Rattle.document.specs.Tokens.{Token, word, mark, ask, noToken, Lexeme, lexemes, offsetOf, isMarkOf, isWordOf}
 use Rattle.document.specs.Grammar.{Whole}
 use Rattle.document.specs.Reading.{nextIs, past, readWhole, Parsed, readAsks, parse}
 use Rattle.grammar.specs.Words.{decided, equal-same}
-use Rattle.grammar.specs.Automaton.{State, atStart, atColon, expecting, stuck}
-use Rattle.grammar.specs.Judge.{Judged, passes, stops, judge}
+use Rattle.grammar.specs.Automaton.{atStart, expecting}
+use Rattle.grammar.specs.Judge.{passes, judge}
 use Rattle.grammar.specs.Agree.{tokens}
 use Rattle.grammar.specs.Readers.{reads-whole}
 use Rattle.grammar.specs.Proper.{AllProper, lexemes-proper}
-use Rattle.grammar.specs.Asking.{StopsAt, Follows, Answered, asks-agree}
+use Rattle.grammar.specs.Asking.{StopsAt, Answered, asks-agree}
 
 word-is : (w : List ℕ) (t : Token) → isWordOf w t ≡ true → t ≡ word w
 word-is w (word u) h = ap word (equal-same u w h)

@@ -17,9 +17,9 @@ use Rattle.document.specs.Patterns.{Pattern}
 use Rattle.document.specs.Tokens.{Token, word, mark, ask, noToken, isMarkOf, isWordOf}
 use Rattle.document.specs.Grammar.{alternatives, Reads, isEventName}
 use Rattle.grammar.specs.Words.{decided, equal-same}
-use Rattle.grammar.specs.Sorts.{Sort, others, sortOf, View, is-name, is-opening, is-closing, is-bar, is-star, is-plus, is-match, is-fail, is-other, view}
-use Rattle.grammar.specs.Automaton.{State, atStart, atColon, expecting, after, matchAsked, failAsked, bothAsked, stuck, fromExpecting, fromAfter, afterClosing, onlyOutside, fromMatchAsked, fromFailAsked, step}
-use Rattle.grammar.specs.Phrases.{Levels, Repeated, Phrase, levels-begin, repeated-beside, levels-name, levels-opening, repeated-bar, repeated-star, repeated-plus, repeated-closing, repeated-whole}
+use Rattle.grammar.specs.Sorts.{sortOf, View, is-name, is-opening, is-closing, is-bar, is-star, is-plus, is-match, is-fail, is-other, view}
+use Rattle.grammar.specs.Automaton.{State, atStart, atColon, expecting, after, matchAsked, failAsked, bothAsked, stuck, fromExpecting, fromAfter, fromMatchAsked, fromFailAsked, step}
+use Rattle.grammar.specs.Phrases.{Levels, Repeated, levels-begin, repeated-beside, levels-name, levels-opening, repeated-bar, repeated-star, repeated-plus, repeated-closing, repeated-whole}
 
 -- how many of the tokens pass the test
 abbrev pub many : (Token → Bool) → List Token → ℕ
