@@ -33,7 +33,7 @@ module _ (declared : List (List ℕ)) (text : List ℕ) where
     pub names : ℕ
     pub is : tokens ls ≡ body ++ asks
     pub reads : Reads declared alternatives 0 names body (p .pattern)
-    pub wants : Asks declared asks (p .asked)
+    pub wants : Asks asks (p .asked)
     pub judged : judge declared (expecting 0) 0 ls ≡ passes (p .asked)
 
   abbrev pub Answered : List Lexeme → Answer Parsed → Type 0
@@ -49,7 +49,7 @@ module _ (declared : List (List ℕ)) (text : List ℕ) where
     pub goes : judge declared (expecting 0) 0 ls ≡ judge declared s m more
 
   module _ {v : ℕ} {s : State} {ls more : List Lexeme} {r : Pattern} {m : ℕ} (h : First v s ls more r m) where
-    first-taken : (a : ℕ) → Asks declared (ask v ∷ tokens more) a → judge declared s m more ≡ passes a → Follows ls (record { pattern = r; asked = a })
+    first-taken : (a : ℕ) → Asks (ask v ∷ tokens more) a → judge declared s m more ≡ passes a → Follows ls (record { pattern = r; asked = a })
     first-taken a w j =
         record {
           body = tokens (h .front);
@@ -66,8 +66,8 @@ module _ (declared : List (List ℕ)) (text : List ℕ) where
 
   -- after the verdict v the machine is in the state s, and u is the other verdict
   record Turn (v u : ℕ) (s : State) : Type 0 where
-    pub one : Asks declared (ask v ∷ []) v
-    pub both : Asks declared (ask v ∷ ask u ∷ []) 3
+    pub one : Asks (ask v ∷ []) v
+    pub both : Asks (ask v ∷ ask u ∷ []) 3
     pub ended : endedWith (askedAt s) ≡ passes v
     pub sum : eqb (v + u) 3 ≡ true
     pub next : step s (ask u) ≡ bothAsked

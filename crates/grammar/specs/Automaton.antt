@@ -158,13 +158,13 @@ module _ (declared : List (List ℕ)) where
       ap (λ x. run x (ts ++ (mark closing ∷ []))) (opening-from b) ∙ run-append (expecting (suc d)) ts (mark closing ∷ [])
       ∙ ap (λ x. run x (mark closing ∷ [])) (run-phrase {d = suc d} p first)
 
-  run-asks : {ts : List Token} {a : ℕ} → Asks declared ts a → askedAt (run (after 0) ts) ≡ a
+  run-asks : {ts : List Token} {a : ℕ} → Asks ts a → askedAt (run (after 0) ts) ≡ a
   run-asks just-match = refl
   run-asks just-fail = refl
   run-asks match-fail = refl
   run-asks fail-match = refl
 
-  asks-some : {ts : List Token} {a : ℕ} → Asks declared ts a → 1 ≤ a
+  asks-some : {ts : List Token} {a : ℕ} → Asks ts a → 1 ≤ a
   asks-some just-match = omega arith
   asks-some just-fail = omega arith
   asks-some match-fail = omega arith

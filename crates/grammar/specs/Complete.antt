@@ -24,10 +24,10 @@ module _ (declared : List (List ℕ)) where
     pub asked : ℕ
     pub whole : Whole declared (ts ++ more) pattern asked
 
-  asked-whole : {us ts : List Token} {a : ℕ} (h : Asked declared us ts) → Asks declared us a → Whole declared ts (h .pattern) a
+  asked-whole : {us ts : List Token} {a : ℕ} (h : Asked declared us ts) → Asks us a → Whole declared ts (h .pattern) a
   asked-whole {us} h w = record { body = h .body; asks = us; names = h .names; is = h .is; reads = h .reads; wants = w }
 
-  asked-completed : {us ts : List Token} {a : ℕ} → Asked declared us ts → Asks declared us a → Completed ts
+  asked-completed : {us ts : List Token} {a : ℕ} → Asked declared us ts → Asks us a → Completed ts
   asked-completed {ts = ts} {a = a} h w =
       record { more = []; pattern = h .pattern; asked = a; whole = subst (λ x. Whole declared x (h .pattern) a) (sym (append-nil ts)) (asked-whole h w) }
 
@@ -78,7 +78,7 @@ module _ (declared : List (List ℕ)) where
     pub asked : ℕ
     pub whole : Whole declared ts pattern asked
 
-  asked-ended : {us ts : List Token} {a : ℕ} → Asked declared us ts → Asks declared us a → Ended ts
+  asked-ended : {us ts : List Token} {a : ℕ} → Asked declared us ts → Asks us a → Ended ts
   asked-ended {a = a} h w = record { pattern = h .pattern; asked = a; whole = asked-whole h w }
 
   pub viable-ended : (s : State) (n : ℕ) (ts : List Token) → 1 ≤ askedAt s → Viable declared s n ts → Ended ts

@@ -73,7 +73,7 @@ module _ (declared : List (List ℕ)) where
         go (dead l e) = inl (l, e)
         go (unfinished e) = inr (refl, e)
 
-  asks-three : {us : List Token} {a : ℕ} → Asks declared us a → (1 ≤ a) × (a ≤ 3)
+  asks-three : {us : List Token} {a : ℕ} → Asks us a → (1 ≤ a) × (a ≤ 3)
   asks-three just-match = omega arith
   asks-three just-fail = omega arith
   asks-three match-fail = omega arith

@@ -193,7 +193,7 @@ module _ (declared : List (List ℕ)) where
         builds = refl;
       }
 
-  build-asks : {us : List Token} {a : ℕ} (d : Desk) → Asks declared us a → build d us ≡ d
+  build-asks : {us : List Token} {a : ℕ} (d : Desk) → Asks us a → build d us ≡ d
   build-asks d just-match = refl
   build-asks d just-fail = refl
   build-asks d match-fail = refl

@@ -16,4 +16,3 @@ pub mod Table
 pub mod Taken
 pub mod Names
 pub mod Meaning
-pub mod DemandTwo

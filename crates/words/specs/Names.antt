@@ -99,7 +99,7 @@ module _ (declared : List (List ℕ)) where
       let z = count-nil in
       omega arith
 
-  asks-count : {ts : List Token} {a : ℕ} → Asks declared ts a → count ts ≡ 0
+  asks-count : {ts : List Token} {a : ℕ} → Asks ts a → count ts ≡ 0
   unfolding count keepIf
   asks-count just-match = refl
   asks-count just-fail = refl
@@ -107,13 +107,13 @@ module _ (declared : List (List ℕ)) where
   asks-count fail-match = refl
 
   -- 1 match, 2 fail, 3 both
-  pub asks-some : {ts : List Token} {a : ℕ} → Asks declared ts a → 1 ≤ a
+  pub asks-some : {ts : List Token} {a : ℕ} → Asks ts a → 1 ≤ a
   asks-some just-match = omega arith
   asks-some just-fail = omega arith
   asks-some match-fail = omega arith
   asks-some fail-match = omega arith
 
-  pub asks-few : {ts : List Token} {a : ℕ} → Asks declared ts a → a ≤ 3
+  pub asks-few : {ts : List Token} {a : ℕ} → Asks ts a → a ≤ 3
   asks-few just-match = omega arith
   asks-few just-fail = omega arith
   asks-few match-fail = omega arith
