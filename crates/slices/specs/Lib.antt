@@ -5,6 +5,7 @@ pub mod OrderLaws
 pub mod JoinSeenLaws
 pub mod HistoriesLaws
 pub mod SeenLaws
+pub mod MovesLaws
 pub mod OneEventLaws
 pub mod PropertyLaws
 pub mod HopefulLaws
