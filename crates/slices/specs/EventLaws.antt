@@ -14,7 +14,8 @@ use Rattle.document.specs.Session.{Session, keeps, reported, outcome, stepFrom,
 use Rattle.document.specs.Demands.{Lists, itself, SeenIn, KeptIn, ReportedIn, Proper, Holds, extended, ComesTo}
 use Rattle.slices.specs.ListsLaws.{in-more}
 use Rattle.slices.specs.OrderLaws.{of-ascending, combinations}
-use Rattle.slices.specs.SeenLaws.{sees-joinOf, see-sees, see-ascends}
+use Rattle.slices.specs.SeeLaws.{see-ascends}
+use Rattle.slices.specs.SeenLaws.{sees-joinOf, see-sees}
 use Rattle.slices.specs.MovesLaws.{reportsAfter-ascends, keptAfter-ascends}
 use Rattle.slices.specs.OneEventLaws.{Before, in-reportsAfter, in-keptAfter}
 use Rattle.slices.specs.PropertyLaws.{stateAfter-more}

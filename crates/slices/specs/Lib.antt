@@ -3,6 +3,7 @@ pub mod ListsLaws
 pub mod CombinationsLaws
 pub mod OrderLaws
 pub mod JoinSeenLaws
+pub mod SeeLaws
 pub mod HistoriesLaws
 pub mod SeenLaws
 pub mod MovesLaws
