@@ -11,7 +11,9 @@ pub mod OneEventLaws
 pub mod PropertyLaws
 pub mod HopefulLaws
 pub mod TablesLaws
+pub mod TablesBackLaws
 pub mod SessionLaws
+pub mod SessionBackLaws
 pub mod HoldsLaws
 pub mod SoundLaws
 pub mod LookupLaws

@@ -2,7 +2,7 @@
 -- nothing stands twice.
 -- Assumes nothing.
 use Prim.Native.Nat.{ℕ, zero, suc, _<_}
-use mathlib.Core.Path.{_≡_, refl, ap, _∙_}
+use mathlib.Core.Path.{_≡_, refl, sym, ap, subst, _∙_}
 use mathlib.Core.Logic.{_⊎_, inl, inr, _↔_}
 use mathlib.Core.Bool.{Bool}
 use mathlib.Core.List.{List, [], _∷_, _++_}
@@ -91,6 +91,18 @@ pub tabulate-same : {A : Type 0} (n : ℕ) (f g : ℕ → A) → ((k : ℕ) → 
 unfolding tabulate
 tabulate-same zero f g h = refl
 tabulate-same (suc n) f g h = rw (h 0, tabulate-same n (λ k. f (suc k)) (λ k. g (suc k)) (λ k. h (suc k)))
+
+-- what holds of all the values holds of the members
+pub tabulate-all : {A : Type 0} (n : ℕ) (f : ℕ → A) (P : A → Type 0) → ((k : ℕ) → P (f k)) → (x : A) → In x (tabulate n f) → P x
+unfolding tabulate
+tabulate-all zero f P h x i = absurd i
+tabulate-all (suc n) f P h x (inl q) = subst P (sym q) (h 0)
+tabulate-all (suc n) f P h x (inr i) = tabulate-all n (λ k. f (suc k)) P (λ k. h (suc k)) x i
+
+pub map-tabulate : {A B : Type 0} (g : A → B) (n : ℕ) (f : ℕ → A) → list.map g (tabulate n f) ≡ tabulate n (λ k. g (f k))
+unfolding tabulate
+map-tabulate g zero f = refl
+map-tabulate g (suc n) f = rw (map-tabulate g n (λ k. f (suc k)))
 
 -- nothing stands twice
 abbrev pub Distinct : {A : Type 0} → List A → Type 0

@@ -98,6 +98,13 @@ unfolding every
 of-every p [] f = tt
 of-every p (x ∷ l) f = of-and (p x) (every p l) (f x (inl refl)) (of-every p l (λ y i. f y (inr i)))
 
+pub every-of : {A : Type 0} (p : A → Bool) (l : List A) → T (every p l) → (x : A) → In x l → T (p x)
+unfolding every
+every-of p [] t x i = absurd i
+every-of p (y ∷ l) t x i =
+    let h = and-of (p y) (every p l) t in
+    elim i [ inl q ↦ rw q (h .0) | inr j ↦ every-of p l (h .1) x j ]
+
 pub everyBelow-of : (n : ℕ) (p : ℕ → Bool) → T (everyBelow n p) → (k : ℕ) → k < n → T (p k)
 unfolding everyBelow
 everyBelow-of zero p t k h = absurd (omega arith)
