@@ -14,8 +14,9 @@ pub mod TablesLaws
 pub mod TablesBackLaws
 pub mod SessionLaws
 pub mod SessionBackLaws
-pub mod HoldsLaws
 pub mod SoundLaws
+pub mod HoldsLaws
+pub mod HoldsSoundLaws
 pub mod LookupLaws
 pub mod EventLaws
 pub mod Demand3

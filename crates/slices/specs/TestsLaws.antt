@@ -53,6 +53,9 @@ pub of-and : (a b : Bool) → T a → T b → T (a && b)
 of-and true b s t = t
 of-and false b s t = absurd s
 
+pub both : (a b : Bool) → a && b ≡ true → (a ≡ true) × (b ≡ true)
+both a b e = let h = and-of a b (so e) in (true-of a (h .0), true-of b (h .1))
+
 pub or-of : (a b : Bool) → T (a || b) → T a ⊎ T b
 or-of true b t = inl tt
 or-of false b t = inr t
