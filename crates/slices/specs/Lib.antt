@@ -9,11 +9,13 @@ pub mod SeenLaws
 pub mod MovesLaws
 pub mod OneEventLaws
 pub mod PropertyLaws
+pub mod ProperLaws
 pub mod HopefulLaws
 pub mod TablesLaws
 pub mod TablesBackLaws
 pub mod SessionLaws
 pub mod SessionBackLaws
+pub mod StepLaws
 pub mod SoundLaws
 pub mod HoldsLaws
 pub mod HoldsSoundLaws
