@@ -12,11 +12,13 @@ pub mod PropertyLaws
 pub mod ProperLaws
 pub mod HopefulLaws
 pub mod TablesLaws
+pub mod KeptJoinsLaws
 pub mod TablesBackLaws
 pub mod SessionLaws
 pub mod SessionBackLaws
 pub mod StepLaws
 pub mod SoundLaws
+pub mod StepSoundLaws
 pub mod HoldsLaws
 pub mod HoldsSoundLaws
 pub mod LookupLaws

@@ -1,7 +1,7 @@
 -- One event over the kept rows, whatever the seen rows are and wherever they come from: which rows move, what is kept and
 -- reported in terms of them, and that both ascend where the kept rows do. Any width, transitions and tests.
 -- Assumes nothing.
-use Prim.Native.Nat.{ℕ, _≤_}
+use Prim.Native.Nat.{ℕ}
 use mathlib.Core.Path.{_≡_, refl, sym, ap, _∙_}
 use mathlib.Core.Logic.{_⊎_, inl, inr, _↔_}
 use mathlib.Core.Bool.{Bool, false, not}

@@ -7,7 +7,6 @@ use mathlib.Core.List.{List}
 use native.Mathlib.Omega.{arith}
 use lib.ListN.{length}
 use Rattle.document.specs.Limits.{width, seenStride, keptStride}
-use Rattle.document.specs.OneEvent.{Kept}
 use Rattle.document.specs.Tables.{numbersAt, seenRoom, keptRoom, seenRows, keptRows, seenTable, keptTable, filled}
 use Rattle.document.specs.Session.{Session, seenOf, keptOf, sessionWith, zeroBetween}
 use Rattle.slices.specs.ListsLaws.{length-tabulate, tabulate-all}

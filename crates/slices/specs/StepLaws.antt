@@ -1,20 +1,20 @@
 -- A step that is taken has passed each test: it found room for what the event comes to, and wrote that down. The tables stay as
 -- long as they were, and so do the report numbers.
 -- Assumes nothing.
-use Prim.Native.Nat.{ℕ, _+_, _*_, _≤_}
-use mathlib.Core.Path.{_≡_, refl, sym, ap, _∙_}
+use Prim.Native.Nat.{ℕ, _*_, _≤_}
+use mathlib.Core.Path.{_≡_, refl, _∙_}
 use mathlib.Core.Bool.{Bool, true, false}
-use mathlib.Core.List.{List, _++_}
+use mathlib.Core.List.{List}
 use mathlib.Core.List as list
 use native.Mathlib.Omega.{arith}
 use borrow.Author.Tests.{ltb-false}
 use lib.Dec.{ltb}
-use lib.ListN.{length, take, drop, length-append, length-take, length-drop, length-map}
+use lib.ListN.{length, drop, length-append, length-take, length-drop, length-map}
 use Rattle.document.specs.Lists.{joinedUp}
 use Rattle.document.specs.Limits.{width, reportStride}
 use Rattle.document.specs.Refusals.{Refusal, noRoomForSeen, noRoomForKept, noRoomForReports, Answer, taken, refuseIf}
 use Rattle.document.specs.OneEvent.{Kept}
-use Rattle.document.specs.Property.{Property, verdict}
+use Rattle.document.specs.Property.{Property}
 use Rattle.document.specs.Tables.{seenRoom, keptRoom, reportRoom}
 use Rattle.document.specs.Session.{Session, Happened, reportNumbers, Outcome, written, withinRooms}
 use Rattle.slices.specs.ListsLaws.{in-map}
