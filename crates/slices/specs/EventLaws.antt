@@ -21,7 +21,7 @@ use Rattle.slices.specs.OneEventLaws.{Before, in-reportsAfter, in-keptAf
 use Rattle.slices.specs.PropertyLaws.{stateAfter-more}
 use Rattle.slices.specs.HopefulLaws.{hopeful-before}
 use Rattle.slices.specs.HoldsLaws.{ProperHistory, slice-range, kept-follows, seen-lists, Standing, standing, seenOf-holds, keptOf-holds}
-use Rattle.slices.specs.HoldsSoundLaws.{holds-sound}
+use Rattle.slices.specs.SoundLaws.{holds-sound}
 
 pub history-more : (p : Property) (H : List Event) (n e : ℕ) (b : List ℕ) → ProperHistory p H → Proper p e b
     → ProperHistory p (extended p H n e b)

@@ -2,6 +2,7 @@ pub mod TestsLaws
 pub mod ListsLaws
 pub mod CombinationsLaws
 pub mod OrderLaws
+pub mod AscendingLaws
 pub mod JoinSeenLaws
 pub mod SeeLaws
 pub mod HistoriesLaws
@@ -17,10 +18,10 @@ pub mod TablesBackLaws
 pub mod SessionLaws
 pub mod SessionBackLaws
 pub mod StepLaws
-pub mod SoundLaws
+pub mod CheckLaws
 pub mod StepSoundLaws
 pub mod HoldsLaws
-pub mod HoldsSoundLaws
+pub mod SoundLaws
 pub mod LookupLaws
 pub mod EventLaws
 pub mod Demand3

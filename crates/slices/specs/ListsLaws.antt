@@ -1,7 +1,7 @@
 -- Members of lists: of an append, of the members that pass a test, of a map, of the numbers tabulated; and lists in which
 -- nothing stands twice.
 -- Assumes nothing.
-use Prim.Native.Nat.{ℕ, zero, suc, _<_}
+use Prim.Native.Nat.{ℕ, zero, suc, _<_, _≤_}
 use mathlib.Core.Path.{_≡_, refl, sym, ap, subst, _∙_}
 use mathlib.Core.Logic.{_⊎_, inl, inr, _↔_}
 use mathlib.Core.Bool.{Bool}
@@ -48,6 +48,18 @@ in-keepIf p (x ∷ l) a =
         (λ r. elim (r .0) [ inl q ↦ absurd (not-so e (rw q at (r .1))) | inr j ↦ in-keepIf p l a .1 (j, r .1) ]),
       )
     ]
+
+pub length-keepIf : {A : Type 0} (p : A → Bool) (l : List A) → length (keepIf p l) ≤ length l
+unfolding keepIf
+length-keepIf p [] = omega arith
+length-keepIf p (x ∷ l) =
+    let h = length-keepIf p l in
+    elim (either (p x)) [ inl e ↦ rw e (omega arith) | inr e ↦ rw e (omega arith) ]
+
+pub keepIf-append : {A : Type 0} (p : A → Bool) (l m : List A) → keepIf p (l ++ m) ≡ keepIf p l ++ keepIf p m
+unfolding keepIf
+keepIf-append p [] m = refl
+keepIf-append p (x ∷ l) m = elim (either (p x)) [ inl e ↦ rw (e, keepIf-append p l m) | inr e ↦ rw (e, keepIf-append p l m) ]
 
 -- b is what f makes of some member
 pub record Image {A B : Type 0} (f : A → B) (l : List A) (b : B) : Type 0 where

@@ -22,7 +22,7 @@ use Rattle.slices.specs.HistoriesLaws.{bindings, slice-joinOf, joinOf, j
 use Rattle.slices.specs.SeenLaws.{sees-joinOf}
 use Rattle.slices.specs.HopefulLaws.{hopeful-right}
 use Rattle.slices.specs.HoldsLaws.{slice-range, standing, seenOf-holds, keptOf-holds}
-use Rattle.slices.specs.HoldsSoundLaws.{holds-sound}
+use Rattle.slices.specs.SoundLaws.{holds-sound}
 
 -- Finding a row --------------------------------------------------------------------------------------------------------
 

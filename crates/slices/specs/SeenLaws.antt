@@ -14,6 +14,7 @@ use Rattle.slices.specs.TestsLaws.{so, not-so, either, equal-of, of-equa
 use Rattle.slices.specs.ListsLaws.{in-more, in-more-old, in-more-new}
 use Rattle.slices.specs.JoinSeenLaws.{OfWidth, joinSeen-same}
 use Rattle.slices.specs.SeeLaws.{in-see}
+pub use Rattle.slices.specs.SeeLaws.{see-ascends}
 use Rattle.slices.specs.HistoriesLaws.{bindings, is-binding, joinOf}
 
 -- b is the binding of the last event or an earlier one's

@@ -26,7 +26,7 @@ use Rattle.slices.specs.ProperLaws.{proper-zeroPast}
 use Rattle.slices.specs.TablesLaws.{KeptWidth}
 use Rattle.slices.specs.SessionLaws.{Fits, seenLength-with, keptLength-with}
 use Rattle.slices.specs.StepLaws.{stepped, written-length}
-use Rattle.slices.specs.SoundLaws.{SoundRows, sounds, of-sounds}
+use Rattle.slices.specs.CheckLaws.{SoundRows, sounds, of-sounds}
 
 -- The rows -------------------------------------------------------------------------------------------------------------
 

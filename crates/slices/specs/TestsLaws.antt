@@ -118,6 +118,11 @@ everyBelow-of (suc n) p t k h =
       | no e ↦ everyBelow-of n p (both .1) k (omega arith)
     ]
 
+pub of-everyBelow : (n : ℕ) (p : ℕ → Bool) → ((k : ℕ) → k < n → T (p k)) → T (everyBelow n p)
+unfolding everyBelow
+of-everyBelow zero p f = tt
+of-everyBelow (suc n) p f = of-and (p n) (everyBelow n p) (f n (omega arith)) (of-everyBelow n p (λ k h. f k (omega arith)))
+
 pub someBelow-of : (n : ℕ) (p : ℕ → Bool) → T (someBelow n p) → (k : ℕ) × (k < n) × T (p k)
 unfolding someBelow
 someBelow-of zero p t = absurd t
