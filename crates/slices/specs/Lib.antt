@@ -14,12 +14,15 @@ pub mod ProperLaws
 pub mod HopefulLaws
 pub mod TablesLaws
 pub mod KeptJoinsLaws
+pub mod RowMovesLaws
+pub mod InPlace
 pub mod TablesBackLaws
 pub mod SessionLaws
 pub mod SessionBackLaws
 pub mod StepLaws
 pub mod CheckLaws
 pub mod StepSoundLaws
+pub mod InPlaceLaws
 pub mod HoldsLaws
 pub mod SoundLaws
 pub mod LookupLaws
