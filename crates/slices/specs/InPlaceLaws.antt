@@ -3,7 +3,7 @@
 -- Assumes nothing.
 use Prim.Native.Nat.{ℕ}
 use mathlib.Core.Path.{_≡_, refl, sym, ap, _∙_}
-use mathlib.Core.Logic.{_⊎_, inl, inr, _↔_}
+use mathlib.Core.Logic.{inl, inr, _↔_}
 use mathlib.Core.Bool.{Bool, true, false, not, _&&_, _||_}
 use mathlib.Core.List.{List, [], _∷_, _++_}
 use mathlib.Core.List as list
@@ -14,7 +14,7 @@ use Rattle.document.specs.Limits.{width}
 use Rattle.document.specs.Combinations.{includes}
 use Rattle.document.specs.OneEvent.{Kept, moves, movedFrom, moved, keptAfter, reportsAfter}
 use Rattle.document.specs.Property.{Property, nextState}
-use Rattle.document.specs.Session.{Session, seenOf, keptOf, keeps, reported, Outcome, outcome, sound}
+use Rattle.document.specs.Session.{Session, seenOf, keptOf, keeps, reported, outcome, sound}
 use Rattle.slices.specs.TestsLaws.{so, not-so, true-of, either, of-not, and-of, of-and, or-of, of-or}
 use Rattle.slices.specs.ListsLaws.{in-keepIf, in-map, map-append, keepIf-append}
 use Rattle.slices.specs.CombinationsLaws.{join-included}

@@ -4,6 +4,7 @@ pub mod CombinationsLaws
 pub mod OrderLaws
 pub mod AscendingLaws
 pub mod JoinSeenLaws
+pub mod ExactlyLaws
 pub mod SeeLaws
 pub mod HistoriesLaws
 pub mod SeenLaws

@@ -1,20 +1,23 @@
 -- One event over the kept rows, whatever the seen rows are and wherever they come from: which rows move, what is kept and
 -- reported in terms of them, and that both ascend where the kept rows do. Any width, transitions and tests.
 -- Assumes nothing.
-use Prim.Native.Nat.{ℕ}
+use Prim.Native.Nat.{ℕ, _≤_}
 use mathlib.Core.Path.{_≡_, refl, sym, ap, _∙_}
 use mathlib.Core.Logic.{_⊎_, inl, inr, _↔_}
 use mathlib.Core.Bool.{Bool, false, not}
 use mathlib.Core.List.{List, [], _∷_, _++_}
 use mathlib.Core.List as list
+use native.Mathlib.Omega.{arith}
 use lib.Dec.{T}
+use lib.ListN.{length, length-map}
 use Rattle.document.specs.Lists.{In, keepIf, equal}
 use Rattle.document.specs.Combinations.{includes, compatible, join}
 use Rattle.document.specs.OneEvent.{Kept, joinSeen, moves, movedFrom, moved, keptAfter, reportsAfter}
 use Rattle.slices.specs.TestsLaws.{not-so, not-of, of-not, and-of, of-and, equal-of, of-equal}
-use Rattle.slices.specs.ListsLaws.{in-append, in-keepIf, in-map, map-append, Distinct, append-distinct, keepIf-distinct, map-distinct}
+use Rattle.slices.specs.ListsLaws.{in-append, in-keepIf, length-keepIf, in-map, map-append, Distinct, append-distinct, keepIf-distinct, map-distinct}
 use Rattle.slices.specs.CombinationsLaws.{join-includes-left}
 use Rattle.slices.specs.OrderLaws.{Ascends, ascends-distinct, combinations, in-inOrder, inOrder-ascends}
+use Rattle.slices.specs.AscendingLaws.{length-inOrder}
 
 abbrev combination : Kept → List ℕ
 combination k = k .combination
@@ -108,6 +111,16 @@ module _ (w : ℕ) (step : ℕ → ℕ → ℕ) (e : ℕ) (b : List ℕ) (seen :
             | inr f ↦ inr (in-keepIf stays kept r .1 (f .0, of-not here (not-so (f .1))))
           ]))),
         )
+
+    -- no more are reported than rows were kept
+    pub length-reportsAfter : (reported : Kept → Bool) → length (reportsAfter w step e b seen reported kept) ≤ length kept
+    unfolding reportsAfter moved
+    length-reportsAfter reported =
+        let all = length-inOrder (keepIf reported movedRows) in
+        let some = length-keepIf reported movedRows in
+        let came = length-map (keepIf may kept) to in
+        let from = length-keepIf may kept in
+        omega arith
 
     -- Each once, in order ----------------------------------------------------------------------------------------------------
 

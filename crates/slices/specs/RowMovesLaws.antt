@@ -17,6 +17,7 @@ use Rattle.slices.specs.CombinationsLaws.{includes-refl, includes-empty,
 use Rattle.slices.specs.OrderLaws.{Ascends, combinations}
 use Rattle.slices.specs.AscendingLaws.{includes-precedes, ascends-once}
 use Rattle.slices.specs.JoinSeenLaws.{OfWidth, joinSeen-includes}
+use Rattle.slices.specs.ExactlyLaws.{joinSeen-exactly}
 use Rattle.slices.specs.SeeLaws.{old, old-of}
 use Rattle.slices.specs.MovesLaws.{moves-of, of-moves, moves-apart}
 use Rattle.slices.specs.KeptJoinsLaws.{Joins, joins-width}
@@ -35,6 +36,17 @@ module _ (w : ℕ) (step : ℕ → ℕ → ℕ) (e : ℕ) (b : List ℕ) (seen :
       let c = k .combination in
       of-moves w step e b seen k (included-compatible c b c t (includes-refl c))
       (ap (λ (x : List ℕ). joinSeen w x seen) (join-included c b t) ∙ joins k i)
+
+  -- a row that is compatible with them moves exactly if it includes each seen binding that its join with them includes
+  pub moves-exactly : (k : Kept) → In k kept → T (compatible b (k .combination)) → T (moves w step e b seen k)
+      ↔ ((x : List ℕ) → In x seen → T (includes (join b (k .combination)) x) → T (includes (k .combination) x))
+  moves-exactly k i t =
+      let c = join b (k .combination) in
+      let oc : length c ≡ w = length-join w b (k .combination) width (joins-width w seen kept widths joins k i) in
+      let exactly = joinSeen-exactly w seen widths c (k .combination) oc (join-includes-right b (k .combination) t) (joins k i) in (
+        (λ m. exactly .0 (moves-of w step e b seen k m .1)),
+        (λ f. of-moves w step e b seen k t (exactly .1 f)),
+      )
 
   -- what a row creates stands in no row
   pub created-absent : (k : Kept) → T (moves w step e b seen k) → includes (k .combination) b ≡ false

@@ -14,10 +14,11 @@ use Rattle.document.specs.Lists.{joinedUp}
 use Rattle.document.specs.Limits.{width, reportStride}
 use Rattle.document.specs.Refusals.{Refusal, noRoomForSeen, noRoomForKept, noRoomForReports, Answer, taken, refuseIf}
 use Rattle.document.specs.OneEvent.{Kept}
-use Rattle.document.specs.Property.{Property}
+use Rattle.document.specs.Property.{Property, nextState}
 use Rattle.document.specs.Tables.{seenRoom, keptRoom, reportRoom}
-use Rattle.document.specs.Session.{Session, Happened, reportNumbers, Outcome, written, withinRooms}
+use Rattle.document.specs.Session.{Session, seenOf, keptOf, Happened, reportNumbers, reported, Outcome, outcome, written, withinRooms}
 use Rattle.slices.specs.ListsLaws.{in-map}
+use Rattle.slices.specs.MovesLaws.{length-reportsAfter}
 use Rattle.slices.specs.TablesLaws.{KeptWidth, length-joinedUp}
 
 -- an answer that is taken has passed the first test
@@ -53,6 +54,11 @@ stepped from p s reports o h q =
       reportRows = ltb-false (reportRoom (drop from reports)) (length (o .rows)) (h₃ .0);
       is = taken-same left h (h₃ .1);
     }
+
+-- an event reports no more rows than were kept, in any session
+pub length-rows : (p : Property) (s : Session) (e : ℕ) (b : List ℕ) → length (outcome p s e b .rows) ≤ length (keptOf s)
+unfolding outcome
+length-rows p s e b = length-reportsAfter width (nextState p) e b (seenOf s) (keptOf s) (reported p)
 
 -- The report numbers ---------------------------------------------------------------------------------------------------
 
