@@ -196,6 +196,14 @@ compatible-join (x ∷ a) (y ∷ b) (z ∷ c) s t =
 pub length-empty : (w : ℕ) → length (emptyOf w) ≡ w
 length-empty w = length-replicate w 0
 
+-- what a combination includes is as wide
+pub length-included : (c b : List ℕ) → T (includes c b) → length b ≡ length c
+unfolding includes
+length-included [] [] t = refl
+length-included [] (y ∷ b) t = absurd t
+length-included (x ∷ c) [] t = absurd t
+length-included (x ∷ c) (y ∷ b) t = ap suc (length-included c b (includes-of x y c b t .1))
+
 pub length-join : (w : ℕ) (a b : List ℕ) → length a ≡ w → length b ≡ w → length (join a b) ≡ w
 unfolding join
 length-join w [] b p q = q
