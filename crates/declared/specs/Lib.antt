@@ -2,3 +2,4 @@ pub mod Readings
 pub mod NamesLaws
 pub mod FieldsLaws
 pub mod PlacesLaws
+pub mod RefusalLaws
