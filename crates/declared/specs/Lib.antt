@@ -3,3 +3,5 @@ pub mod NamesLaws
 pub mod FieldsLaws
 pub mod PlacesLaws
 pub mod RefusalLaws
+pub mod ReadLaws
+pub mod WholeLaws
