@@ -5,3 +5,4 @@ pub mod PlacesLaws
 pub mod RefusalLaws
 pub mod ReadLaws
 pub mod WholeLaws
+pub mod ReadsLaws
