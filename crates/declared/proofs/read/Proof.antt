@@ -4,7 +4,7 @@ use native.Mathlib.Omega.{arith}
 use lib.ListN.{length}
 use Rattle.rows.specs.TextLaws.{row-within}
 use Rattle.rows.specs.FieldsLaws.{split-some}
-use Rattle.declared.specs.WholeLaws.{Going, read-long, read-header, read-begins, read-row, read-refused, read-later, read-none, read-all}
+use Rattle.declared.specs.TextReadsLaws.{Going, read-long, read-header, read-begins, read-row, read-refused, read-later, read-none, read-all}
 use Prim.Native.Nat.{_-_}
 use borrow.Author.Needs.{needs}
 use Rattle.declared.proofs.read.Statement.{statement}
@@ -20,7 +20,7 @@ none-read-requires : tie.Need-none-read-requires Inv-loop μ-loop
 none-read-requires c κs = search needs
 
 returns : tie.Need-returns Inv-loop μ-loop
-returns c = search (needs, read-long)
+returns c = read-long _ _ (search needs) (c .none-read .ensures)
 
 row-end-requires : tie.Need-row-end-requires Inv-loop μ-loop
 row-end-requires c κs = search needs

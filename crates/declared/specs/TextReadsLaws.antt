@@ -22,7 +22,7 @@ use Rattle.rows.specs.FieldsLaws.{split-counts}
 use Rattle.declared.specs.declared.Reading.{Reading}
 use Rattle.declared.specs.Readings.{padded, Stands, ReadAs, Reads, Placed, said, noneRead, RowAs, RowReads}
 use Rattle.declared.specs.PlacesLaws.{names-length, names-none}
-use Rattle.declared.specs.RefusalLaws.{header-takes, header-fields}
+use Rattle.declared.specs.RowRefusalsLaws.{header-takes, header-fields}
 
 -- the declarations, once all their rows are read: "no event" last
 unfoldable pub finish : Answer Declared → Answer Declared

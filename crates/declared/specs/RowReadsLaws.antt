@@ -23,7 +23,7 @@ use Rattle.rows.specs.FieldsLaws.{split-at, split-some}
 use Rattle.declared.specs.declared.Reading.{Reading}
 use Rattle.declared.specs.Readings.{Inside, Placed, said, noneRead, oneMore, RowAs, RowReads}
 use Rattle.declared.specs.PlacesLaws.{names-more}
-use Rattle.declared.specs.RefusalLaws.{rowAdds, event-takes, event-fits, event-fields}
+use Rattle.declared.specs.RowRefusalsLaws.{rowAdds, event-takes, event-fits, event-fields}
 
 -- a part of the first n bytes is that part of the whole
 part-of-part : (m k n : ℕ) (l : List ℕ) → k + m ≤ n → take m (drop k (take n l)) ≡ take m (drop k l)
