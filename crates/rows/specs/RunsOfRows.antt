@@ -114,28 +114,28 @@ rowsIn-next log at to h k =
 
 -- from one offset a reader comes to the other, and hands out these rows on its way
 pub data Passes (log : List ℕ) : ℕ → ℕ → List (List ℕ) → Type 0 where
-  none : {at : ℕ} → Passes log at at []
-  more : {at to : ℕ} {l : List (List ℕ)} → at < length log → Passes log (nextAt log at) to l → Passes log at to (rowAt log at ∷ l)
+  atOnce : {at : ℕ} → Passes log at at []
+  rowFirst : {at to : ℕ} {l : List (List ℕ)} → at < length log → Passes log (nextAt log at) to l → Passes log at to (rowAt log at ∷ l)
 
 pub passes-on : {log : List ℕ} {at to : ℕ} {l : List (List ℕ)} → Passes log at to l → at ≤ to
-passes-on none = omega arith
-passes-on {log} (more {at} h q) = let k = passes-on q in let j = next-later log at h in omega arith
+passes-on atOnce = omega arith
+passes-on {log} (rowFirst {at} h q) = let k = passes-on q in let j = next-later log at h in omega arith
 
 pub passes-within : {log : List ℕ} {at to : ℕ} {l : List (List ℕ)} → Passes log at to l → at ≤ length log → to ≤ length log
-passes-within none h = h
-passes-within {log} (more {at} h q) k = passes-within q (next-within log at)
+passes-within atOnce h = h
+passes-within {log} (rowFirst {at} h q) k = passes-within q (next-within log at)
 
 -- these are the rows between the two offsets
 pub passes-rows : {log : List ℕ} {at to : ℕ} {l : List (List ℕ)} → Passes log at to l → rowsIn log at to ≡ l
-passes-rows {log} (none {at}) = rowsIn-none log at
-passes-rows {log} (more {at} {to} h q) = rowsIn-next log at to h (passes-on q) ∙ ap (λ l. rowAt log at ∷ l) (passes-rows q)
+passes-rows {log} (atOnce {at}) = rowsIn-none log at
+passes-rows {log} (rowFirst {at} {to} h q) = rowsIn-next log at to h (passes-on q) ∙ ap (λ l. rowAt log at ∷ l) (passes-rows q)
 
 -- and with the rows after the second they are the rows after the first
 pub passes-cut : {log : List ℕ} {at to : ℕ} {l : List (List ℕ)} → Passes log at to l → rows (drop at log) ≡ l ++ rows (drop to log)
 unfolding rowAt
-passes-cut none = refl
-passes-cut {log} (more {at} h q) = rows-next log at h ∙ ap (λ l. rowAt log at ∷ l) (passes-cut q)
+passes-cut atOnce = refl
+passes-cut {log} (rowFirst {at} h q) = rows-next log at h ∙ ap (λ l. rowAt log at ∷ l) (passes-cut q)
 
 pub passes-append : {log : List ℕ} {at mid to : ℕ} {l m : List (List ℕ)} → Passes log at mid l → Passes log mid to m → Passes log at to (l ++ m)
-passes-append none r = r
-passes-append (more h q) r = more h (passes-append q r)
+passes-append atOnce r = r
+passes-append (rowFirst h q) r = rowFirst h (passes-append q r)

@@ -17,7 +17,7 @@ use Rattle.document.specs.Property.{Property}
 use Rattle.document.specs.Session.{Session, Happened}
 use Rattle.document.specs.Log.{stepRow, rowAt, nextAt, rowsBetween, Ran, ranTo, runFrom, judged, run}
 use Rattle.document.specs.Demands.{Runs}
-use Rattle.rows.specs.RunsOfRows.{rowsIn, rowsIn-count, rowsIn-none, Passes, none, more, passes-rows}
+use Rattle.rows.specs.RunsOfRows.{rowsIn, rowsIn-count, rowsIn-none, Passes, atOnce, rowFirst, passes-rows}
 use Rattle.slices.specs.TestsLaws.{either}
 use Rattle.runs.specs.Turns.{Turns, spent, ended, stopped, passed, turns}
 
@@ -33,12 +33,12 @@ module _ (d : Declared) (p : Property) (log : List ℕ) where
   turns-cover : {budget rows at : ℕ} {s : Session} {reports : List ℕ} {count : ℕ} {r : Ran}
       → Turns d p log budget rows at s reports count r → Covers log rows at r
   unfolding ranTo
-  turns-cover spent = record { covered = []; passes = none; count = omega arith }
-  turns-cover (ended h) = record { covered = []; passes = none; count = omega arith }
-  turns-cover (stopped h e) = record { covered = []; passes = none; count = omega arith }
+  turns-cover spent = record { covered = []; passes = atOnce; count = omega arith }
+  turns-cover (ended h) = record { covered = []; passes = atOnce; count = omega arith }
+  turns-cover (stopped h e) = record { covered = []; passes = atOnce; count = omega arith }
   turns-cover (passed {at = at} l e t) =
       let c = turns-cover t in
-      record { covered = rowAt log at ∷ c .covered; passes = more l (c .passes); count = let k = c .count in omega arith }
+      record { covered = rowAt log at ∷ c .covered; passes = rowFirst l (c .passes); count = let k = c .count in omega arith }
 
   pub run-covers : (budget rows at : ℕ) (s : Session) (reports : List ℕ) (count : ℕ)
       → Covers log rows at (runFrom budget d p log rows at s reports count)
@@ -80,8 +80,8 @@ module _ (text : List ℕ) (p : Property) (s : Session) (reports log : List ℕ)
 call-covers : (text : List ℕ) (p : Property) (s : Session) (reports log : List ℕ) (at budget : ℕ) {r : Ran}
     → Calls text p s reports log at budget r → Covers log 0 at r
 unfolding ranTo
-call-covers text p s reports log at budget (refusedCall e) = record { covered = []; passes = none; count = refl }
-call-covers text p s reports log at budget (pastLog e h) = record { covered = []; passes = none; count = refl }
+call-covers text p s reports log at budget (refusedCall e) = record { covered = []; passes = atOnce; count = refl }
+call-covers text p s reports log at budget (pastLog e h) = record { covered = []; passes = atOnce; count = refl }
 call-covers text p s reports log at budget (takenCall {d} e h) = run-covers d p log budget 0 at s reports 0
 
 -- "row limit in, rows taken out; equals the count of rows in the definition between the two offsets", for every answer
