@@ -43,12 +43,12 @@ module _ (d : Declared) (p : Property) (log : List ℕ) where
     pub each : length (historyOf d n covered) ≡ length covered
     pub holds : P (H ++ historyOf d n covered) (r .happened .session)
 
-  unchanged : (P : List Event → Session → Type 0) (H : List Event) (n rows at : ℕ) (s : Session) (reports : List ℕ) (count : ℕ)
+  pub unchanged : (P : List Event → Session → Type 0) (H : List Event) (n rows at : ℕ) (s : Session) (reports : List ℕ) (count : ℕ)
       (stop : Answer (Unit {0})) → P H s → Extends P H n at (ranTo rows at s reports count stop)
   unfolding historyOf ranTo
   unchanged P H n rows at s reports count stop h = record { covered = []; passes = atOnce; each = refl; holds = rw (append-nil H) h }
 
-  one-more : (P : List Event → Session → Type 0) (H : List Event) (n at : ℕ) (v : RowEvent) (r : Ran) → at < length log
+  pub one-more : (P : List Event → Session → Type 0) (H : List Event) (n at : ℕ) (v : RowEvent) (r : Ran) → at < length log
       → rowEvent d (rowAt log at) ≡ taken v → Extends P (extended p H n (v .event) (v .values)) (n + 1) (nextAt log at) r → Extends P H n at r
   one-more P H n at v r l e x =
       let this : Event = record { row = n; event = v .event; binding = v .values } in
