@@ -4,7 +4,7 @@
 use Prim.Native.Nat.{ℕ, zero, suc, _+_, _*_, _≤_, _<_}
 use mathlib.Core.Path.{_≡_, refl, sym, ap, _∙_}
 use mathlib.Core.Bool.{Bool, true, false}
-use mathlib.Core.List.{List, [], _∷_, _++_}
+use mathlib.Core.List.{List, [], _∷_, _++_, append-nil}
 use native.Mathlib.Omega.{arith}
 use lib.ListN.{length, take, drop, take-append-drop}
 use lib.Seq.{length-take-le}
@@ -85,3 +85,23 @@ module _ (d : Declared) (p : Property) (log seen kept : List ℕ) (range : inRan
   run-reached budget rows at s reports count H n f h =
       let x = turns-reach (turns d p log budget rows at s reports count) H n f h in
       rw (passes-rows (x .passes)) (x .holds)
+
+-- The call, refused ones too -------------------------------------------------------------------------------------------
+
+declared-one : (text : List ℕ) (d e : Declared) → declarations text ≡ taken d → declarations text ≡ taken e → d ≡ e
+declared-one text d e p q = taken-one (sym p ∙ q)
+
+pub call-holds : (text : List ℕ) (p : Property) (s : Session) (reports log : List ℕ) (at budget : ℕ) (d : Declared) (H : List Event) (n : ℕ)
+    → declarations text ≡ taken d → Holds p H s
+    → let r = run text p s reports log at budget in Holds p (H ++ historyOf d n (rowsIn log at (r .next))) (r .happened .session)
+unfolding historyOf ranTo
+call-holds text p s reports log at budget d H n e h = go (calls text p s reports log at budget)
+  where
+    still : Holds p (H ++ historyOf d n (rowsIn log at at)) s
+    still = rw (rowsIn-none log at, append-nil H) h
+    go : {r : Ran} → Calls text p s reports log at budget r → Holds p (H ++ historyOf d n (rowsIn log at (r .next))) (r .happened .session)
+    go (refusedCall q) = still
+    go (pastLog q l) = still
+    go (takenCall {d = x} q l) =
+        let j = judged-of text p s x q in
+        rw (declared-one text d x e (j .declares)) (run-holds x p log (j .range) (j .agree) budget 0 at s reports 0 H n h)
