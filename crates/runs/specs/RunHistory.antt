@@ -35,6 +35,11 @@ pub history-row : (d : Declared) (n : ℕ) (bytes : List ℕ) (l : List (List �
 unfolding historyOf
 history-row d n bytes l v e = rw (e, historyOf)
 
+pub history-one : (d : Declared) (n : ℕ) (bytes : List ℕ) (v : RowEvent) → rowEvent d bytes ≡ taken v
+    → historyOf d n (bytes ∷ []) ≡ record { row = n; event = v .event; binding = v .values } ∷ []
+unfolding historyOf
+history-one d n bytes v e = history-row d n bytes [] v e
+
 module _ (d : Declared) (p : Property) (log : List ℕ) where
   -- what a run does to a history H: each row that it takes brings one event, and P holds of the history with these
   pub record Extends (P : List Event → Session → Type 0) (H : List Event) (n at : ℕ) (r : Ran) : Type 0 where
