@@ -60,12 +60,12 @@ reports-few p s e b =
 
 -- How long each is -----------------------------------------------------------------------------------------------------
 
-length-numbersAt : (n : ℕ) (t : List ℕ) (at : ℕ) → length (numbersAt n t at) ≡ n
+pub length-numbersAt : (n : ℕ) (t : List ℕ) (at : ℕ) → length (numbersAt n t at) ≡ n
 unfolding numbersAt
 length-numbersAt zero t at = refl
 length-numbersAt (suc n) t at = ap suc (length-numbersAt n t (at + 1))
 
-in-tabulate : {A : Type 0} (n : ℕ) (f : ℕ → A) (x : A) → In x (tabulate n f) → (i : ℕ) × (x ≡ f i)
+pub in-tabulate : {A : Type 0} (n : ℕ) (f : ℕ → A) (x : A) → In x (tabulate n f) → (i : ℕ) × (x ≡ f i)
 unfolding tabulate
 in-tabulate zero f x i = absurd i
 in-tabulate (suc n) f x (inl e) = (0, e)
