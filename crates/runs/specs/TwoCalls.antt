@@ -17,7 +17,6 @@ use Rattle.document.specs.Session.{Session, Happened, sound, stepFrom}
 use Rattle.document.specs.Log.{rowEvent, stepRow, rowAt, nextAt, Ran, ranTo, runFrom, judged, run}
 use Rattle.document.specs.Demands.{Holds}
 use Rattle.rows.specs.RunsOfRows.{passes-within}
-use Rattle.slices.specs.SoundLaws.{holds-sound}
 use Rattle.runs.specs.Turns.{Turns, spent, ended, stopped, passed, turns}
 use Rattle.runs.specs.Counts.{run-covers, call-refused, call-past, call-runs, Calls, refusedCall, pastLog, takenCall, calls}
 use Rattle.runs.specs.TwoRuns.{goesOn, goesOn-taken, goesOn-refused, two-runs}
@@ -26,7 +25,7 @@ use Rattle.runs.specs.ReportRows.{Reports, step-reports}
 use Rattle.runs.specs.Answers.{past-call}
 use Rattle.runs.specs.Judged.{Judged, judged-of, of-judged}
 use Rattle.runs.specs.RowEvents.{row-says}
-use Rattle.runs.specs.RunHistory.{historyOf, run-holds}
+use Rattle.runs.specs.SoundRuns.{run-sound}
 
 -- The reports of a run lie in the numbers lent -------------------------------------------------------------------------
 
@@ -87,21 +86,22 @@ module _ (text : List ℕ) (p : Property) (s : Session) (reports log : List ℕ)
       go (pastLog {d} j l) e = call-past text p s reports log at (m + n) d j l
       go (takenCall {d} j l) e = whole-call d j l ∙ goesOn-refused d p log n (runFrom m d p log 0 at s reports 0) q o e
 
-  -- and else, if the session that it left is sound, a second call goes on from there
-  pub two-calls : run text p s reports log at m .stop ≡ taken tt → sound p (run text p s reports log at m .happened .session) ≡ true
+  -- and else a second call goes on from there: the session that the first left is sound, and its offset lies in the log
+  pub two-calls : run text p s reports log at m .stop ≡ taken tt
       → run text p s reports log at (m + n) ≡ joined (run text p s reports log at m) (callAgain text p log n (run text p s reports log at m))
   unfolding ranTo
-  two-calls e f = go (calls text p s reports log at m) e f
+  two-calls e = go (calls text p s reports log at m) e
     where
-      go : {r : Ran} → Calls text p s reports log at m r → r .stop ≡ taken tt → sound p (r .happened .session) ≡ true
+      go : {r : Ran} → Calls text p s reports log at m r → r .stop ≡ taken tt
           → run text p s reports log at (m + n) ≡ joined r (callAgain text p log n r)
-      go (refusedCall j) e f = let z : _≡_ {A = ℕ} 0 1 = cc in absurd (omega arith)
-      go (pastLog j l) e f = let z : _≡_ {A = ℕ} 0 1 = cc in absurd (omega arith)
-      go (takenCall {d} j l) e f =
+      go (refusedCall j) e = let z : _≡_ {A = ℕ} 0 1 = cc in absurd (omega arith)
+      go (pastLog j l) e = let z : _≡_ {A = ℕ} 0 1 = cc in absurd (omega arith)
+      go (takenCall {d} j l) e =
           let r = runFrom m d p log 0 at s reports 0 in
           let count = r .happened .reported in
           let t = r .happened .session in
           let k = judged-of text p s d j in
+          let f = run-sound d p (k .range) (k .agree) log m 0 at s reports 0 (k .sound) in
           let fits = run-reports d p log m 0 at s reports 0 (omega arith) in
           let front : length (reportsMade r) ≡ count * reportStride =
           length-take-le (count * reportStride) (r .happened .reports) (let i = fits .0 in let x = fits .1 in omega arith) in
