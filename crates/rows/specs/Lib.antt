@@ -5,3 +5,4 @@ pub mod SplitLaws
 pub mod ValueLaws
 pub mod FieldsLaws
 pub mod RunsOfRows
+pub mod BuffersOfRows
