@@ -5,14 +5,16 @@
 use Prim.Native.Nat.{ℕ, zero, suc, _+_, _≤_, _<_}
 use mathlib.Core.Path.{_≡_, refl, sym, ap, _∙_}
 use mathlib.Core.Logic.{_⊎_, inl, inr}
-use mathlib.Core.Bool.{Bool, true, false}
+use mathlib.Core.Bool.{Bool, true, false, and-false}
 use mathlib.Core.List.{List, [], _∷_, _++_}
 use lib.ListN.{length, drop, length-append}
-use lib.Dec.{leb}
+use lib.Dec.{leb, eqb}
 use borrow.Author.Tests.{leb-true, leb-false}
 use native.Mathlib.Omega.{arith}
+use Rattle.document.specs.Classes.{cr, lf}
 use Rattle.document.specs.Rows.{endsRow, firstRow, afterRow, rows}
-use Rattle.rows.specs.RowsLaws.{first-ends, first-more, after-ends, after-more, ends-two, split-bool}
+use Rattle.rows.specs.RowsLaws.{first-ends, first-more, after-ends, after-more, ends-two, split-bool, after-row}
+use Rattle.rows.specs.TextLaws.{rows-over}
 use Rattle.rows.specs.RunsOfRows.{rows-some}
 
 -- where a byte after a CR is held, it tells whether that is a line end
@@ -95,3 +97,41 @@ whole-or-open t = elim (split-bool (leb (length t) (length (firstRow t)))) [
   | inl e ↦ inr (leb-true (length t) (length (firstRow t)) e)
   | inr e ↦ inl (leb-false (length t) (length (firstRow t)) e)
 ]
+
+-- A part that ends with a line end -------------------------------------------------------------------------------------
+
+not-a-line-end : (b : ℕ) (u : List ℕ) → endsRow b (cr ∷ u) ≡ false
+unfolding endsRow
+not-a-line-end b u = and-false (eqb b cr)
+
+-- a CR and an LF after an open part end its row
+pub open-ends : (t u : List ℕ) → Open t → firstRow (t ++ (cr ∷ lf ∷ u)) ≡ t
+unfolding endsRow
+open-ends [] u h = first-ends cr (lf ∷ u) refl
+open-ends (b ∷ []) u h = first-more b (cr ∷ lf ∷ u) (not-a-line-end b (lf ∷ u)) ∙ ap (λ l. b ∷ l) (first-ends cr (lf ∷ u) refl)
+open-ends (b ∷ c ∷ t) u h =
+    first-more b (c ∷ (t ++ (cr ∷ lf ∷ u))) (open-goes-on b (c ∷ t) h) ∙ ap (λ l. b ∷ l) (open-ends (c ∷ t) u (open-rest b (c ∷ t) h))
+
+pub open-rest-of : (t u : List ℕ) → Open t → afterRow (t ++ (cr ∷ lf ∷ u)) ≡ u
+unfolding endsRow
+open-rest-of [] u h = after-ends cr (lf ∷ u) refl
+open-rest-of (b ∷ []) u h = after-more b (cr ∷ lf ∷ u) (not-a-line-end b (lf ∷ u)) ∙ after-ends cr (lf ∷ u) refl
+open-rest-of (b ∷ c ∷ t) u h = after-more b (c ∷ (t ++ (cr ∷ lf ∷ u))) (open-goes-on b (c ∷ t) h) ∙ open-rest-of (c ∷ t) u (open-rest b (c ∷ t) h)
+
+closed-within : (n : ℕ) (t u : List ℕ) → length t < n → rows (t ++ (cr ∷ lf ∷ u)) ≡ rows (t ++ (cr ∷ lf ∷ [])) ++ rows u
+closed-within zero t u h = absurd (omega arith)
+closed-within (suc n) t u h = elim (whole-or-open t) [
+  | inl w ↦
+      let k = after-row t w in
+      whole-rows t (cr ∷ lf ∷ u) w
+      ∙ ap (λ l. firstRow t ∷ l) (closed-within n (afterRow t) u (omega arith))
+      ∙ ap (λ l. l ++ rows u) (sym (whole-rows t (cr ∷ lf ∷ []) w))
+  | inr o ↦
+      let row : (v : List ℕ) → rows (t ++ (cr ∷ lf ∷ v)) ≡ t ∷ rows v = λ v.
+      rows-some (t ++ (cr ∷ lf ∷ v)) (rw length-append (omega arith)) ∙ rw (open-ends t v o, open-rest-of t v o) in
+      row u ∙ ap (λ l. l ++ rows u) (sym (row [] ∙ ap (λ l. t ∷ l) (rows-over [] 0 (omega arith))))
+]
+
+-- so a text cut after a CR and an LF has the rows of the one part and then those of the other
+pub closed-rows : (t u : List ℕ) → rows (t ++ (cr ∷ lf ∷ u)) ≡ rows (t ++ (cr ∷ lf ∷ [])) ++ rows u
+closed-rows t u = closed-within (suc (length t)) t u (omega arith)

@@ -14,15 +14,16 @@ use Rattle.document.specs.Limits.{rowBytes}
 use Rattle.document.specs.Refusals.{Refusal, badRow, Answer, taken, refused}
 use Rattle.document.specs.Declarations.{Declared}
 use Rattle.document.specs.Property.{Property}
+use Rattle.document.specs.Classes.{cr, lf}
 use Rattle.document.specs.Rows.{firstRow, afterRow, rows}
 use Rattle.document.specs.Session.{Session, Happened, leaves}
 use Rattle.document.specs.Log.{RowEvent, rowEvent, stepRow, rowAt, nextAt}
-use Rattle.document.specs.Printing.{refusedLine, rowLines}
+use Rattle.document.specs.Printing.{lineEnd, refusedLine, rowLines}
 use Rattle.rows.specs.RunsOfRows.{rows-some}
-use Rattle.rows.specs.BuffersOfRows.{Whole, whole-first, whole-after, whole-rows, Open, open-long, open-after}
+use Rattle.rows.specs.BuffersOfRows.{Whole, whole-first, whole-after, whole-rows, Open, open-long, open-after, closed-rows}
 use Rattle.runs.specs.RowEvents.{bytes-first}
-use Rattle.runs.specs.PrintPart.{rowText}
-use Rattle.runs.specs.PrintLaws.{lines-row}
+use Rattle.runs.specs.PrintPart.{rowText, afterRows}
+use Rattle.runs.specs.PrintLaws.{lines-row, lines-append}
 
 -- a row of more bytes than a row may have is refused, whatever they are
 pub long-row : (d : Declared) (bytes : List ℕ) → rowBytes < length bytes → rowEvent d bytes ≡ refused badRow 0
@@ -51,6 +52,14 @@ module _ (d : Declared) (p : Property) (n : ℕ) (s : Session) (reports held lat
       ap (rowLines d p n s reports) (rows-some t some)
       ∙ lines-row d p n s reports (firstRow t) (rows (afterRow t))
       ∙ rw (e, open-after k held later o m)
+
+-- a part that ends with a line end: its rows are printed, and those of what follows go on from what they left
+pub print-closed : (d : Declared) (p : Property) (n : ℕ) (s : Session) (reports held later : List ℕ)
+    → let l = rows (held ++ lineEnd) in let x = afterRows d p s reports l in
+      rowLines d p n s reports (rows (held ++ (cr ∷ lf ∷ later)))
+      ≡ rowLines d p n s reports l ++ rowLines d p (n + length l) (x .session) (x .reports) (rows later)
+print-closed d p n s reports held later =
+    ap (rowLines d p n s reports) (closed-rows held later) ∙ lines-append d p n s reports (rows (held ++ lineEnd)) (rows later)
 
 -- the end of the file: what is held is all there is
 pub print-end : (d : Declared) (p : Property) (n : ℕ) (s : Session) (reports held : List ℕ)
