@@ -1,10 +1,10 @@
 -- Laws of the rows between two offsets of a text, where the part between them ends at a row's end or past it: its first row,
 -- line end included, is the text's row at the first offset, and the others lie between the place after it and the second.
 -- Assumes nothing.
-use Prim.Native.Nat.{ℕ, zero, suc, _+_, _-_, _≤_, _<_}
+use Prim.Native.Nat.{ℕ, zero, suc, _-_, _≤_, _<_}
 use mathlib.Core.Path.{_≡_, refl, sym, ap, ap₂, _∙_}
-use mathlib.Core.Logic.{_⊎_, inl, inr}
-use mathlib.Core.Bool.{Bool, true, false}
+use mathlib.Core.Logic.{inl, inr}
+use mathlib.Core.Bool.{true, false}
 use mathlib.Core.List.{List, [], _∷_, _++_}
 use lib.ListN.{length, take, drop, length-drop, length-take}
 use lib.Seq.{take-nil}
@@ -12,7 +12,7 @@ use native.Mathlib.Omega.{arith}
 use Rattle.document.specs.Rows.{endsRow, firstRow, afterRow, rowsWithin, rows}
 use Rattle.document.specs.Log.{rowAt, nextAt, rowsBetween}
 use Rattle.rows.specs.RowsLaws.{first-ends, first-more, after-ends, after-more, ends-two, split-bool}
-use Rattle.rows.specs.TextLaws.{after-within, after-shorter, drop-next, next-within, next-later, rows-over, rows-next}
+use Rattle.rows.specs.TextLaws.{after-within, after-shorter, drop-next, next-within, next-later, rows-next}
 
 -- A part that begins with the first row and its line end --------------------------------------------------------------
 

@@ -1,23 +1,22 @@
 -- Document 01, "Log rows and the run": the rows that a run takes are the rows between the offset that it was given and the
 -- one that it answers, and it stops short of its limit only at the log's end or before a row that is refused.
 -- Assumes nothing.
-use Prim.Native.Nat.{ℕ, zero, suc, _+_, _*_, _≤_, _<_}
+use Prim.Native.Nat.{ℕ, _+_, _*_, _≤_, _<_}
 use mathlib.Core.Path.{_≡_, refl, sym, ap, _∙_}
-use mathlib.Core.Logic.{_⊎_, inl, inr}
-use mathlib.Core.Bool.{Bool, true, false}
+use mathlib.Core.Logic.{inl, inr}
 use mathlib.Core.List.{List, [], _∷_}
 use native.Mathlib.Omega.{arith}
 use lib.ListN.{length}
 use lib.Dec.{ltb}
 use borrow.Author.Tests.{ltb-true, ltb-false, lt-ltb, le-ltb}
 use Rattle.document.specs.Limits.{reportStride}
-use Rattle.document.specs.Refusals.{Refusal, offsetPastLog, Answer, taken, refused, refuseIf, andThen}
+use Rattle.document.specs.Refusals.{Refusal, offsetPastLog, Answer, taken, refused}
 use Rattle.document.specs.Declarations.{Declared}
 use Rattle.document.specs.Property.{Property}
-use Rattle.document.specs.Session.{Session, Happened}
-use Rattle.document.specs.Log.{stepRow, rowAt, nextAt, rowsBetween, Ran, ranTo, runFrom, judged, run}
+use Rattle.document.specs.Session.{Session}
+use Rattle.document.specs.Log.{stepRow, rowAt, rowsBetween, Ran, ranTo, runFrom, judged, run}
 use Rattle.document.specs.Demands.{Runs}
-use Rattle.rows.specs.RunsOfRows.{rowsIn, rowsIn-count, rowsIn-none, Passes, atOnce, rowFirst, passes-rows}
+use Rattle.rows.specs.RunsOfRows.{rowsIn-count, Passes, atOnce, rowFirst, passes-rows}
 use Rattle.slices.specs.TestsLaws.{either}
 use Rattle.runs.specs.Turns.{Turns, spent, ended, stopped, passed, turns}
 

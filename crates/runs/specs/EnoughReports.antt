@@ -1,17 +1,17 @@
 -- Refusal 17 cannot occur in the program: the reports of one event are never more than the kept rows before it, each row has
 -- the whole report room, and that holds as many rows as the kept table may have.
 -- Assumes nothing.
-use Prim.Native.Nat.{ℕ, zero, suc, _+_, _-_, _*_, _/_, _≤_, _<_}
-use mathlib.Core.Path.{_≡_, refl, sym, ap, _∙_}
-use mathlib.Core.Logic.{_⊎_, inl, inr}
-use mathlib.Core.Bool.{Bool, true, false, not}
-use mathlib.Core.List.{List, [], _∷_, _++_}
+use Prim.Native.Nat.{ℕ, _*_, _≤_}
+use mathlib.Core.Path.{_≡_, refl}
+use mathlib.Core.Logic.{inl, inr}
+use mathlib.Core.Bool.{not}
+use mathlib.Core.List.{List, [], _∷_}
 use native.Mathlib.Omega.{arith}
 use lib.ListN.{length, replicate, length-replicate}
 use lib.Dec.{ltb}
 use borrow.Author.Tests.{ltb-false}
 use Rattle.document.specs.Limits.{mostSeen, mostKept, seenStride, keptStride, reportStride, programReports}
-use Rattle.document.specs.Refusals.{Refusal, number, badProperty, noRoomForSeen, noRoomForKept, noRoomForReports, Answer, taken, refused, refuseIf}
+use Rattle.document.specs.Refusals.{badProperty, noRoomForSeen, noRoomForKept, noRoomForReports, Answer, taken, refused, refuseIf}
 use Rattle.document.specs.Declarations.{Declared}
 use Rattle.document.specs.Property.{Property, inRange}
 use Rattle.document.specs.Tables.{keptRows, keptRoom, reportRoom}
@@ -19,8 +19,8 @@ use Rattle.document.specs.Session.{Session, Happened, keptOf, sessionWith, lent
 use Rattle.document.specs.Log.{rowEvent, stepRow}
 use Rattle.document.specs.Printing.{programSession}
 use Rattle.slices.specs.ListsLaws.{length-tabulate}
-use Rattle.runs.specs.Answers.{past-test, past-call, taken-one, InRoom, in-room, out-of-room}
-use Rattle.runs.specs.ReportRows.{reports-few, Reports}
+use Rattle.runs.specs.Answers.{past-test, past-call, taken-one, in-room, out-of-room}
+use Rattle.runs.specs.ReportRows.{reports-few}
 use Rattle.runs.specs.RowEvents.{row-refused, bytes-number}
 use Rattle.runs.specs.TwoCalls.{row-reports}
 use Rattle.runs.specs.PrintPart.{afterRows}

@@ -1,15 +1,14 @@
 -- What row and run judge before any row: declarations that are taken, a table in range that agrees with them, a sound session.
 -- Assumes nothing.
 use Prim.Native.Nat.{ℕ, _<_}
-use mathlib.Core.Path.{_≡_, refl, sym, ap, _∙_}
-use mathlib.Core.Bool.{Bool, true, false, not, _&&_}
-use mathlib.Core.List.{List, [], _∷_}
-use native.Mathlib.Omega.{arith}
+use mathlib.Core.Path.{_≡_, ap, _∙_}
+use mathlib.Core.Bool.{Bool, true, not, _&&_}
+use mathlib.Core.List.{List}
 use lib.ListN.{length, getD}
-use lib.Dec.{T, eqb}
+use lib.Dec.{eqb}
 use borrow.Author.Tests.{eqb-true, not-false}
 use Rattle.document.specs.Lists.{everyBelow}
-use Rattle.document.specs.Refusals.{Refusal, badProperty, badSession, tableDiffers, Answer, taken, refused, refuseIf, andThen}
+use Rattle.document.specs.Refusals.{badProperty, badSession, tableDiffers, Answer, taken, refuseIf}
 use Rattle.document.specs.Declarations.{Declared, declarations}
 use Rattle.document.specs.Property.{Property, inRange, setOf}
 use Rattle.document.specs.Session.{Session, sound}

@@ -2,25 +2,23 @@
 -- line end is held is printed as it stands; a row that is longer than a row may be is refused 18 before its end is held, and
 -- its bytes are let go but for the last; at the end of the file nothing follows.
 -- Assumes nothing.
-use Prim.Native.Nat.{ℕ, zero, suc, _+_, _≤_, _<_}
-use mathlib.Core.Path.{_≡_, refl, sym, ap, _∙_}
-use mathlib.Core.Bool.{Bool, true, false, _||_, not}
+use Prim.Native.Nat.{ℕ, _+_, _<_}
+use mathlib.Core.Path.{_≡_, ap, _∙_}
 use mathlib.Core.List.{List, [], _∷_, _++_, append-nil}
 use native.Mathlib.Omega.{arith}
-use lib.ListN.{length, getD, drop, length-append}
-use lib.Dec.{ltb}
+use lib.ListN.{length, drop, length-append}
 use borrow.Author.Tests.{lt-ltb}
 use Rattle.document.specs.Limits.{rowBytes}
-use Rattle.document.specs.Refusals.{Refusal, badRow, Answer, taken, refused}
+use Rattle.document.specs.Refusals.{badRow, refused}
 use Rattle.document.specs.Declarations.{Declared}
 use Rattle.document.specs.Property.{Property}
 use Rattle.document.specs.Classes.{cr, lf}
 use Rattle.document.specs.Rows.{firstRow, afterRow, rows}
-use Rattle.document.specs.Session.{Session, Happened, leaves}
-use Rattle.document.specs.Log.{RowEvent, rowEvent, stepRow, rowAt, nextAt}
+use Rattle.document.specs.Session.{Session, leaves}
+use Rattle.document.specs.Log.{rowEvent, stepRow}
 use Rattle.document.specs.Printing.{lineEnd, refusedLine, rowLines}
 use Rattle.rows.specs.RunsOfRows.{rows-some}
-use Rattle.rows.specs.BuffersOfRows.{Whole, whole-first, whole-after, whole-rows, Open, open-long, open-after, closed-rows}
+use Rattle.rows.specs.BuffersOfRows.{Whole, whole-rows, Open, open-long, open-after, closed-rows}
 use Rattle.runs.specs.RowEvents.{bytes-first}
 use Rattle.runs.specs.PrintPart.{rowText, afterRows}
 use Rattle.runs.specs.PrintLaws.{lines-row, lines-append}

@@ -4,22 +4,19 @@
 use Prim.Native.Nat.{ℕ, zero, suc, _+_, _≤_, _<_}
 use mathlib.Core.Path.{_≡_, refl, sym, ap, _∙_}
 use mathlib.Core.Logic.{_⊎_, inl, inr}
-use mathlib.Core.Bool.{Bool, true, false}
-use mathlib.Core.List.{List, [], _∷_, _++_, append-nil, append-assoc}
+use mathlib.Core.List.{List, [], _∷_, _++_, append-assoc}
 use native.Mathlib.Omega.{arith}
 use native.Mathlib.Nat.{zero-add}
-use lib.ListN.{length, drop, length-append}
+use lib.ListN.{length}
 use lib.Dec.{leb}
 use borrow.Author.Tests.{le-leb, lt-leb, leb-true, leb-false}
 use Rattle.document.specs.Refusals.{Answer, taken, refused}
 use Rattle.document.specs.Declarations.{Declared}
 use Rattle.document.specs.Property.{Property}
-use Rattle.document.specs.Rows.{firstRow, afterRow, rowsWithin, rows}
 use Rattle.document.specs.Session.{Session, Happened, leaves}
 use Rattle.document.specs.Log.{stepRow, rowAt, nextAt}
 use Rattle.document.specs.Printing.{rowLines}
-use Rattle.rows.specs.TextLaws.{drop-next, rows-over}
-use Rattle.rows.specs.RunsOfRows.{Passes, atOnce, rowFirst, passes-cut}
+use Rattle.rows.specs.RunsOfRows.{Passes, atOnce, rowFirst}
 use Rattle.slices.specs.TestsLaws.{either}
 use Rattle.runs.specs.PrintPart.{rowText, afterRows, PrintedTo, nothingPrinted, linesFirst, printFrom}
 

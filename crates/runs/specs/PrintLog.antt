@@ -1,21 +1,21 @@
 -- The whole log, printed part by part, prints what the program prints: the lines of the rows after its header.
 -- Assumes nothing.
-use Prim.Native.Nat.{ℕ, zero, suc, _+_, _≤_, _<_}
+use Prim.Native.Nat.{ℕ, zero, suc, _≤_}
 use mathlib.Core.Path.{_≡_, refl, sym, ap, _∙_}
-use mathlib.Core.Logic.{_⊎_, inl, inr}
+use mathlib.Core.Logic.{inl, inr}
 use mathlib.Core.List.{List, [], _∷_, _++_, append-nil}
 use native.Mathlib.Omega.{arith}
 use lib.ListN.{length, drop, length-append}
 use Rattle.document.specs.Declarations.{Declared}
 use Rattle.document.specs.Property.{Property}
-use Rattle.document.specs.Rows.{firstRow, afterRow, rowsWithin, rows}
+use Rattle.document.specs.Rows.{afterRow, rowsWithin, rows}
 use Rattle.document.specs.Session.{Session}
 use Rattle.document.specs.Log.{nextAt}
 use Rattle.document.specs.Printing.{rowLines}
 use Rattle.rows.specs.TextLaws.{after-within, drop-next, rows-over}
 use Rattle.rows.specs.RunsOfRows.{passes-cut}
-use Rattle.runs.specs.PrintPart.{PrintedTo, printFrom}
-use Rattle.runs.specs.PrintLaws.{Prints, prints}
+use Rattle.runs.specs.PrintPart.{printFrom}
+use Rattle.runs.specs.PrintLaws.{prints}
 
 -- no text has more rows than bytes
 rows-within-few : (n : ℕ) (t : List ℕ) → length (rowsWithin n t) ≤ n

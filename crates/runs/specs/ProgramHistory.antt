@@ -2,18 +2,18 @@
 -- those that were taken, each with its row's number. So every report that it prints is one of demand 3's.
 -- Assumes nothing.
 use Prim.Native.Nat.{ℕ, _+_, _*_}
-use mathlib.Core.Path.{_≡_, refl, sym, ap, _∙_}
-use mathlib.Core.Bool.{Bool, true, false}
+use mathlib.Core.Path.{_≡_, refl, ap}
+use mathlib.Core.Bool.{true}
 use mathlib.Core.List.{List, [], _∷_, _++_, append-nil, append-assoc}
 use native.Mathlib.Omega.{arith}
-use lib.ListN.{length, replicate}
-use Rattle.document.specs.Limits.{mostSeen, mostKept, seenStride, keptStride, reportStride, programReports}
+use lib.ListN.{replicate}
+use Rattle.document.specs.Limits.{mostSeen, mostKept, seenStride, keptStride}
 use Rattle.document.specs.Refusals.{Refusal, Answer, taken, refused}
 use Rattle.document.specs.Declarations.{Declared}
 use Rattle.document.specs.Property.{Property, inRange}
 use Rattle.document.specs.Histories.{Event}
 use Rattle.document.specs.Session.{Session, Happened, leaves}
-use Rattle.document.specs.Log.{RowEvent, stepRow, agrees}
+use Rattle.document.specs.Log.{stepRow, agrees}
 use Rattle.document.specs.Printing.{programSession}
 use Rattle.document.specs.Demands.{Holds, extended, Reached, fresh}
 use Rattle.runs.specs.RowEvents.{Brings, row-brings, row-holds}

@@ -1,29 +1,28 @@
 -- The reports of an event: each is a whole row of the report numbers, there are no more of them than kept rows before the
 -- event, and they are written inside the numbers lent, which stay as many.
 -- Assumes nothing.
-use Prim.Native.Nat.{ℕ, zero, suc, _+_, _-_, _*_, _/_, _≤_, _<_}
-use mathlib.Core.Path.{_≡_, refl, sym, ap, _∙_}
-use mathlib.Core.Logic.{_⊎_, inl, inr}
-use mathlib.Core.Bool.{Bool, true, false}
-use mathlib.Core.List.{List, [], _∷_, _++_}
+use Prim.Native.Nat.{ℕ, zero, suc, _+_, _-_, _*_, _/_, _≤_}
+use mathlib.Core.Path.{_≡_, refl, ap, _∙_}
+use mathlib.Core.Logic.{inl, inr}
+use mathlib.Core.Bool.{Bool}
+use mathlib.Core.List.{List, [], _∷_}
 use mathlib.Core.List as list
 use native.Mathlib.Omega.{arith}
-use lib.ListN.{length, take, drop, replicate, length-append, length-take, length-drop, length-map, length-replicate}
+use lib.ListN.{length, length-append, length-take, length-drop, length-map}
 use Rattle.document.specs.Lists.{In, keepIf, tabulate, joinedUp}
 use Rattle.document.specs.Limits.{width, keptStride, reportStride}
-use Rattle.document.specs.Refusals.{Answer, taken}
-use Rattle.document.specs.Declarations.{Declared}
+use Rattle.document.specs.Refusals.{taken}
 use Rattle.document.specs.Property.{Property, nextState}
-use Rattle.document.specs.Combinations.{join, precedes}
+use Rattle.document.specs.Combinations.{precedes}
 use Rattle.document.specs.OneEvent.{Kept, insertKept, inOrder, moves, movedFrom, moved, reportsAfter}
 use Rattle.document.specs.Tables.{numbersAt, keptRows, reportRoom}
-use Rattle.document.specs.Session.{Session, Happened, Outcome, keptOf, seenOf, reported, reportNumbers, outcome, written, stepFrom}
+use Rattle.document.specs.Session.{Session, Happened, keptOf, seenOf, reported, reportNumbers, outcome, written, stepFrom}
 use Rattle.slices.specs.TestsLaws.{either}
 use Rattle.slices.specs.ListsLaws.{in-map, in-keepIf}
 use Rattle.slices.specs.CombinationsLaws.{length-join}
 use Rattle.slices.specs.OrderLaws.{in-inOrder}
 use Rattle.slices.specs.TablesLaws.{KeptWidth, length-joinedUp}
-use Rattle.runs.specs.Answers.{InRoom, in-room}
+use Rattle.runs.specs.Answers.{in-room}
 
 -- How many -------------------------------------------------------------------------------------------------------------
 

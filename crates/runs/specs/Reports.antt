@@ -1,10 +1,10 @@
 -- The lent report numbers: what stands before the place where an event's reports begin is left, and decides nothing. So an
 -- event, a row and a run answer the same over the report numbers that are left as over all of them.
 -- Assumes nothing.
-use Prim.Native.Nat.{ℕ, zero, suc, _+_, _-_, _*_, _≤_, _<_}
-use mathlib.Core.Path.{_≡_, refl, sym, ap, ap₂, _∙_}
+use Prim.Native.Nat.{ℕ, suc, _+_, _*_}
+use mathlib.Core.Path.{_≡_, refl, ap, _∙_}
 use mathlib.Core.Bool.{Bool, true, false}
-use mathlib.Core.List.{List, [], _∷_, _++_, append-assoc}
+use mathlib.Core.List.{List, _++_, append-assoc}
 use mathlib.Core.List as list
 use native.Mathlib.Omega.{arith}
 use lib.ListN.{length, take, drop}
@@ -17,7 +17,7 @@ use Rattle.document.specs.Declarations.{Declared}
 use Rattle.document.specs.Property.{Property}
 use Rattle.document.specs.Tables.{seenRoom, keptRoom, reportRoom}
 use Rattle.document.specs.Session.{Session, Happened, Outcome, reportNumbers, sessionWith, outcome, written, withinRooms, stepFrom}
-use Rattle.document.specs.Log.{RowEvent, rowEvent, stepRow, rowAt, nextAt, Ran, ranTo, runFrom}
+use Rattle.document.specs.Log.{RowEvent, rowEvent, stepRow, rowAt, Ran, ranTo, runFrom}
 use Rattle.runs.specs.Turns.{run-spent, run-ended, run-refused, run-taken, Turns, spent, ended, stopped, passed, turns}
 
 -- an answer with its value changed

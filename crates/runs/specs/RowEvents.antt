@@ -2,22 +2,21 @@
 -- then the session holds the history with that event. Row refusals 18 to 21 come before the event.
 -- Assumes nothing.
 use Prim.Native.Nat.{ℕ, _<_, _≤_}
-use mathlib.Core.Path.{_≡_, refl, sym, ap, _∙_}
+use mathlib.Core.Path.{_≡_}
 use mathlib.Core.Logic.{_⊎_, inl, inr, _↔_}
-use mathlib.Core.Bool.{Bool, true, false, not, _||_}
-use mathlib.Core.List.{List, [], _∷_, _++_}
-use mathlib.Core.List as list
+use mathlib.Core.Bool.{true, not, _||_}
+use mathlib.Core.List.{List, []}
 use native.Mathlib.Omega.{arith}
-use lib.ListN.{length, getD, drop, replicate, length-append, length-take, length-replicate}
+use lib.ListN.{length, getD, drop, length-append, length-take, length-replicate}
 use lib.Dec.{eqb, leb, ltb}
 use borrow.Author.Tests.{leb-false, not-false}
 use Rattle.document.specs.Lists.{some, placeOf}
 use Rattle.document.specs.Limits.{width, rowBytes}
-use Rattle.document.specs.Refusals.{Refusal, number, badRow, unknownEvent, badValue, wrongFields, Answer, taken, refused, refuseIf, andThen}
+use Rattle.document.specs.Refusals.{Refusal, number, badRow, unknownEvent, badValue, wrongFields, taken, refused, refuseIf}
 use Rattle.document.specs.Classes.{cr, lf, quote}
-use Rattle.document.specs.Rows.{fields, valueOf}
+use Rattle.document.specs.Rows.{fields}
 use Rattle.document.specs.Declarations.{Declared}
-use Rattle.document.specs.Property.{Property, inRange, setOf}
+use Rattle.document.specs.Property.{Property, inRange}
 use Rattle.document.specs.Combinations.{bindsExactly}
 use Rattle.document.specs.Histories.{Event}
 use Rattle.document.specs.Session.{Session, Happened, outcome, stepFrom, leaves}

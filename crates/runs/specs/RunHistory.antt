@@ -1,26 +1,22 @@
 -- Demand 3 carried to rows: the session after a run holds the history extended by the events of the rows that it took, in
 -- order, each with its row's number; and a session reached from a fresh start by rows is one reached by events.
 -- Assumes nothing.
-use Prim.Native.Nat.{ℕ, zero, suc, _+_, _*_, _≤_, _<_}
-use mathlib.Core.Path.{_≡_, refl, sym, ap, _∙_}
-use mathlib.Core.Bool.{Bool, true, false}
+use Prim.Native.Nat.{ℕ, suc, _+_, _*_, _<_}
+use mathlib.Core.Path.{_≡_, refl, ap, _∙_}
+use mathlib.Core.Bool.{true}
 use mathlib.Core.List.{List, [], _∷_, _++_, append-nil, append-assoc}
-use native.Mathlib.Omega.{arith}
-use lib.ListN.{length, take, drop, take-append-drop, length-take}
+use lib.ListN.{length}
 use Rattle.document.specs.Limits.{reportStride}
-use Rattle.document.specs.Refusals.{Refusal, Answer, taken, refused}
+use Rattle.document.specs.Refusals.{Answer, taken, refused}
 use Rattle.document.specs.Declarations.{Declared}
 use Rattle.document.specs.Property.{Property, inRange}
 use Rattle.document.specs.Histories.{Event}
-use Rattle.document.specs.Session.{Session, Happened, stepFrom, event}
-use Rattle.document.specs.Log.{RowEvent, rowEvent, stepRow, agrees, rowAt, nextAt, Ran, ranTo, runFrom}
-use Rattle.document.specs.Demands.{Proper, Holds, extended, Reached, accepted}
+use Rattle.document.specs.Session.{Session, event}
+use Rattle.document.specs.Log.{RowEvent, rowEvent, agrees, rowAt, nextAt, Ran, ranTo, runFrom}
+use Rattle.document.specs.Demands.{Holds, extended}
 use Rattle.rows.specs.RunsOfRows.{rowsIn, Passes, atOnce, rowFirst, passes-rows}
-use Rattle.slices.specs.Demand3.{demand-3}
 use Rattle.runs.specs.Turns.{Turns, spent, ended, stopped, passed, turns}
-use Rattle.runs.specs.Reports.{takenAs, inFront, step-front}
-use Rattle.runs.specs.ReportRows.{Reports, step-reports}
-use Rattle.runs.specs.RowEvents.{Brings, row-brings, row-holds}
+use Rattle.runs.specs.RowEvents.{row-brings, row-holds}
 
 -- the events that rows say, the first row numbered n; a row that says none brings none
 unfoldable pub historyOf : Declared → ℕ → List (List ℕ) → List Event

@@ -1,27 +1,27 @@
 -- From a fresh start: a row that is taken is an event that is accepted, over the report numbers that are left, and so the
 -- session after a run is reached as demand 3 says, by the events of the rows taken.
 -- Assumes nothing.
-use Prim.Native.Nat.{ℕ, zero, suc, _+_, _*_, _≤_, _<_}
+use Prim.Native.Nat.{ℕ, _+_, _*_, _≤_}
 use mathlib.Core.Path.{_≡_, refl, sym, ap, _∙_}
-use mathlib.Core.Bool.{Bool, true, false}
-use mathlib.Core.List.{List, [], _∷_, _++_, append-nil}
+use mathlib.Core.Bool.{true}
+use mathlib.Core.List.{List, _++_, append-nil}
 use native.Mathlib.Omega.{arith}
 use lib.ListN.{length, take, drop, take-append-drop}
 use lib.Seq.{length-take-le}
 use Rattle.document.specs.Limits.{reportStride}
-use Rattle.document.specs.Refusals.{Refusal, Answer, taken, refused}
+use Rattle.document.specs.Refusals.{Answer, taken, refused}
 use Rattle.document.specs.Declarations.{Declared, declarations}
 use Rattle.document.specs.Property.{Property, inRange}
 use Rattle.document.specs.Histories.{Event}
 use Rattle.document.specs.Session.{Session, Happened, stepFrom, event}
-use Rattle.document.specs.Log.{stepRow, agrees, rowAt, nextAt, Ran, ranTo, runFrom, run}
+use Rattle.document.specs.Log.{agrees, rowAt, Ran, ranTo, runFrom, run}
 use Rattle.document.specs.Demands.{Holds, extended, Reached, accepted}
 use Rattle.rows.specs.RunsOfRows.{rowsIn, rowsIn-none, passes-rows}
 use Rattle.slices.specs.Demand3.{demand-3}
 use Rattle.runs.specs.Turns.{Turns, spent, ended, stopped, passed, turns}
 use Rattle.runs.specs.Counts.{Calls, refusedCall, pastLog, takenCall, calls}
 use Rattle.runs.specs.Reports.{takenAs, inFront, step-front}
-use Rattle.runs.specs.ReportRows.{Reports, step-reports}
+use Rattle.runs.specs.ReportRows.{step-reports}
 use Rattle.runs.specs.Answers.{taken-one}
 use Rattle.runs.specs.Judged.{judged-of}
 use Rattle.runs.specs.RowEvents.{Brings, row-brings}

@@ -1,20 +1,19 @@
 -- The session check (12) as statements about the rows of the two tables, and the check of tables that such rows are put into.
 -- Assumes nothing.
 use Prim.Native.Nat.{ℕ, _*_, _≤_, _<_}
-use mathlib.Core.Path.{_≡_, refl, sym, ap, _∙_}
+use mathlib.Core.Path.{_≡_}
 use mathlib.Core.Logic.{inl, inr}
-use mathlib.Core.Bool.{Bool, true, false, not, _&&_}
+use mathlib.Core.Bool.{Bool, true, not, _&&_}
 use mathlib.Core.List.{List, [], _∷_}
-use mathlib.Core.List as list
 use lib.ListN.{length}
 use lib.Dec.{T, leb, ltb, ltb→lt, lt→ltb}
 use borrow.Author.Tests.{le-leb}
-use Rattle.document.specs.Lists.{In, every, tabulate, equal}
+use Rattle.document.specs.Lists.{In, every, equal}
 use Rattle.document.specs.Limits.{width, seenStride, keptStride}
 use Rattle.document.specs.Property.{Property, hopeful}
 use Rattle.document.specs.Combinations.{emptyOf, zeroPast}
 use Rattle.document.specs.OneEvent.{Kept, joinSeen}
-use Rattle.document.specs.Tables.{numbersAt, seenRoom, keptRoom, seenRows}
+use Rattle.document.specs.Tables.{seenRoom, keptRoom, seenRows}
 use Rattle.document.specs.Session.{Session, seenOf, keptOf, sessionWith, ascending, keptCombinations, rightlyKept, zeroBetween, sound}
 use Rattle.slices.specs.TestsLaws.{so, true-of, of-not, and-of, of-and, of-every, equal-of, of-equal, not-of, not-so}
 use Rattle.slices.specs.ListsLaws.{in-map, map-in}

@@ -1,6 +1,6 @@
 -- A sound session stays sound through rows and runs: the check (12) is judged once for all rows of a call.
 -- Assumes nothing.
-use Prim.Native.Nat.{ℕ, _+_, _*_}
+use Prim.Native.Nat.{ℕ, _*_}
 use mathlib.Core.Path.{_≡_, refl}
 use mathlib.Core.Bool.{true}
 use mathlib.Core.List.{List, [], _∷_}
@@ -9,9 +9,9 @@ use Rattle.document.specs.Refusals.{Answer, taken, refused}
 use Rattle.document.specs.Declarations.{Declared}
 use Rattle.document.specs.Property.{Property, inRange}
 use Rattle.document.specs.Session.{Session, Happened, sound, leaves}
-use Rattle.document.specs.Log.{stepRow, agrees, rowAt, Ran, ranTo, runFrom, run}
+use Rattle.document.specs.Log.{stepRow, agrees, rowAt, Ran, ranTo, runFrom}
 use Rattle.runs.specs.Turns.{Turns, spent, ended, stopped, passed, turns}
-use Rattle.runs.specs.RowEvents.{Brings, row-brings}
+use Rattle.runs.specs.RowEvents.{row-brings}
 use Rattle.runs.specs.PrintPart.{afterRows}
 use Rattle.runs.specs.SoundSteps.{step-sound}
 

@@ -1,9 +1,9 @@
 -- A sound session stays sound: what an accepted event leaves passes the session check (12) again, whatever the session was, so
 -- rows of a run need no judging again and a second call is not refused 12 where the first was not.
 -- Assumes nothing.
-use Prim.Native.Nat.{ℕ, _+_, _*_, _≤_, _<_}
+use Prim.Native.Nat.{ℕ, _<_}
 use mathlib.Core.Path.{_≡_, refl, sym, ap, _∙_}
-use mathlib.Core.Logic.{_⊎_, inl, inr, _↔_}
+use mathlib.Core.Logic.{_⊎_, inl, inr}
 use mathlib.Core.Bool.{Bool, true, false, not}
 use mathlib.Core.List.{List, [], _∷_, _++_}
 use mathlib.Core.List as list
@@ -11,10 +11,10 @@ use lib.ListN.{length}
 use lib.Dec.{T}
 use Rattle.document.specs.Lists.{In, keepIf, equal}
 use Rattle.document.specs.Limits.{width}
-use Rattle.document.specs.Refusals.{Answer, taken}
+use Rattle.document.specs.Refusals.{taken}
 use Rattle.document.specs.Property.{Property, inRange, nextState, hopeful}
-use Rattle.document.specs.Combinations.{emptyOf, includes, compatible, join, zeroPast}
-use Rattle.document.specs.Histories.{Event, IsBinding}
+use Rattle.document.specs.Combinations.{includes, compatible, join, zeroPast}
+use Rattle.document.specs.Histories.{Event}
 use Rattle.document.specs.OneEvent.{Kept, joinSeen, see, moves, movedFrom, moved, keptAfter}
 use Rattle.document.specs.Session.{Session, Happened, seenOf, keptOf, keeps, sound, outcome, written, stepFrom}
 use Rattle.document.specs.Demands.{Proper}
@@ -23,11 +23,11 @@ use Rattle.slices.specs.ListsLaws.{in-append, in-more, in-keepIf, in-map, map-a
 use Rattle.slices.specs.CombinationsLaws.{join-includes-left, length-join, zeroPast-join}
 use Rattle.slices.specs.OrderLaws.{Ascends, ascends-distinct, combinations, in-inOrder, inOrder-ascends}
 use Rattle.slices.specs.JoinSeenLaws.{OfWidth}
-use Rattle.slices.specs.HistoriesLaws.{bindings, is-binding, joinOf, joinOf-more-in, joinOf-more-out}
+use Rattle.slices.specs.HistoriesLaws.{bindings, is-binding, joinOf-more-in, joinOf-more-out}
 use Rattle.slices.specs.SeenLaws.{Sees, sees-joinOf, see-sees, see-ascends}
 use Rattle.slices.specs.PropertyLaws.{ranges}
 use Rattle.slices.specs.HoldsLaws.{ProperHistory, binding-zeroPast}
-use Rattle.runs.specs.Answers.{InRoom, in-room}
+use Rattle.runs.specs.Answers.{in-room}
 use Rattle.runs.specs.SoundRows.{SoundRows, sound-rows, rows-sound}
 
 -- Bindings as a history, so that the laws of histories speak of them -----------------------------------------------------

@@ -1,21 +1,18 @@
 -- Two calls of run are one call: how a caller goes on. The second call is given the session, the offset and the report numbers
 -- that the first left, those past its reports; what the two answer is joined.
 -- Assumes nothing.
-use Prim.Native.Nat.{ℕ, zero, suc, _+_, _*_, _≤_, _<_}
+use Prim.Native.Nat.{ℕ, _+_, _*_, _≤_}
 use mathlib.Core.Path.{_≡_, refl, sym, ap, _∙_}
-use mathlib.Core.Bool.{Bool, true, false}
-use mathlib.Core.List.{List, [], _∷_, _++_}
+use mathlib.Core.List.{List}
 use native.Mathlib.Omega.{arith}
 use lib.ListN.{length, take, drop, take-append-drop}
 use lib.Seq.{length-take-le}
 use Rattle.document.specs.Limits.{reportStride}
-use Rattle.document.specs.Refusals.{Refusal, Answer, taken, refused}
+use Rattle.document.specs.Refusals.{Refusal, taken, refused}
 use Rattle.document.specs.Declarations.{Declared}
 use Rattle.document.specs.Property.{Property}
-use Rattle.document.specs.Histories.{Event}
 use Rattle.document.specs.Session.{Session, Happened, sound, stepFrom}
-use Rattle.document.specs.Log.{rowEvent, stepRow, rowAt, nextAt, Ran, ranTo, runFrom, judged, run}
-use Rattle.document.specs.Demands.{Holds}
+use Rattle.document.specs.Log.{rowEvent, stepRow, rowAt, Ran, ranTo, runFrom, judged, run}
 use Rattle.rows.specs.RunsOfRows.{passes-within}
 use Rattle.runs.specs.Turns.{Turns, spent, ended, stopped, passed, turns}
 use Rattle.runs.specs.Counts.{run-covers, call-refused, call-past, call-runs, Calls, refusedCall, pastLog, takenCall, calls}
@@ -23,7 +20,7 @@ use Rattle.runs.specs.TwoRuns.{goesOn, goesOn-taken, goesOn-refused, two
 use Rattle.runs.specs.Reports.{ranAfter, run-front}
 use Rattle.runs.specs.ReportRows.{Reports, step-reports}
 use Rattle.runs.specs.Answers.{past-call}
-use Rattle.runs.specs.Judged.{Judged, judged-of, of-judged}
+use Rattle.runs.specs.Judged.{judged-of, of-judged}
 use Rattle.runs.specs.RowEvents.{row-says}
 use Rattle.runs.specs.SoundRuns.{run-sound}
 

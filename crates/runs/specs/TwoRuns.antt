@@ -1,16 +1,16 @@
 -- Two runs are one run: a run of m + n rows is a run of m rows and, if no refusal stopped it, a run of n rows that goes on
 -- from where it stopped.
 -- Assumes nothing.
-use Prim.Native.Nat.{ℕ, zero, suc, _+_, _*_, _≤_, _<_}
+use Prim.Native.Nat.{ℕ, suc, _+_, _≤_}
 use native.Mathlib.Nat.{zero-add}
-use mathlib.Core.Path.{_≡_, refl, sym, ap, _∙_}
-use mathlib.Core.List.{List, [], _∷_}
+use mathlib.Core.Path.{_≡_, sym, ap, _∙_}
+use mathlib.Core.List.{List}
 use native.Mathlib.Omega.{arith}
 use lib.ListN.{length}
 use Rattle.document.specs.Refusals.{Refusal, Answer, taken, refused}
 use Rattle.document.specs.Declarations.{Declared}
 use Rattle.document.specs.Property.{Property}
-use Rattle.document.specs.Session.{Session, Happened}
+use Rattle.document.specs.Session.{Session}
 use Rattle.document.specs.Log.{Ran, ranTo, runFrom}
 use Rattle.runs.specs.Turns.{run-ended, run-refused, run-taken, Turns, spent, ended, stopped, passed, turns}
 
