@@ -48,7 +48,9 @@ drop-held (b ∷ t) u h = refl
 pub whole-after : (t u : List ℕ) → Whole t → afterRow (t ++ u) ≡ afterRow t ++ u
 whole-after [] u h = absurd (omega arith)
 whole-after (b ∷ t) u h = elim (split-bool (endsRow b t)) [
-  | inl e ↦ let k = ends-two b t e in after-ends b (t ++ u) (ends-held b t u k ∙ e) ∙ drop-held t u k ∙ ap (λ l. l ++ u) (sym (after-ends b t e))
+  | inl e ↦
+      let k = ends-two b t e in
+      after-ends b (t ++ u) (ends-held b t u k ∙ e) ∙ drop-held t u k ∙ ap (λ l. l ++ u) (sym (after-ends b t e))
   | inr e ↦
       let w = whole-rest b t e h in
       after-more b (t ++ u) (ends-held b t u (omega arith) ∙ e) ∙ whole-after t u w ∙ ap (λ l. l ++ u) (sym (after-more b t e))
@@ -73,7 +75,10 @@ open-goes-on b t h = elim (split-bool (endsRow b t)) [
 ]
 
 open-rest : (b : ℕ) (t : List ℕ) → Open (b ∷ t) → Open t
-open-rest b t h = let k : length (b ∷ t) ≤ length (firstRow (b ∷ t)) = h in let j = rw (first-more b t (open-goes-on b t h)) at k in omega arith
+open-rest b t h =
+    let k : length (b ∷ t) ≤ length (firstRow (b ∷ t)) = h in
+    let j = rw (first-more b t (open-goes-on b t h)) at k in
+    omega arith
 
 -- the row is at least as long, but for the last byte
 pub open-long : (t u : List ℕ) → Open t → length t ≤ suc (length (firstRow (t ++ u)))
@@ -110,13 +115,15 @@ unfolding endsRow
 open-ends [] u h = first-ends cr (lf ∷ u) refl
 open-ends (b ∷ []) u h = first-more b (cr ∷ lf ∷ u) (not-a-line-end b (lf ∷ u)) ∙ ap (λ l. b ∷ l) (first-ends cr (lf ∷ u) refl)
 open-ends (b ∷ c ∷ t) u h =
-    first-more b (c ∷ (t ++ (cr ∷ lf ∷ u))) (open-goes-on b (c ∷ t) h) ∙ ap (λ l. b ∷ l) (open-ends (c ∷ t) u (open-rest b (c ∷ t) h))
+    first-more b (c ∷ (t ++ (cr ∷ lf ∷ u))) (open-goes-on b (c ∷ t) h)
+    ∙ ap (λ l. b ∷ l) (open-ends (c ∷ t) u (open-rest b (c ∷ t) h))
 
 pub open-rest-of : (t u : List ℕ) → Open t → afterRow (t ++ (cr ∷ lf ∷ u)) ≡ u
 unfolding endsRow
 open-rest-of [] u h = after-ends cr (lf ∷ u) refl
 open-rest-of (b ∷ []) u h = after-more b (cr ∷ lf ∷ u) (not-a-line-end b (lf ∷ u)) ∙ after-ends cr (lf ∷ u) refl
-open-rest-of (b ∷ c ∷ t) u h = after-more b (c ∷ (t ++ (cr ∷ lf ∷ u))) (open-goes-on b (c ∷ t) h) ∙ open-rest-of (c ∷ t) u (open-rest b (c ∷ t) h)
+open-rest-of (b ∷ c ∷ t) u h =
+    after-more b (c ∷ (t ++ (cr ∷ lf ∷ u))) (open-goes-on b (c ∷ t) h) ∙ open-rest-of (c ∷ t) u (open-rest b (c ∷ t) h)
 
 closed-within : (n : ℕ) (t u : List ℕ) → length t < n → rows (t ++ (cr ∷ lf ∷ u)) ≡ rows (t ++ (cr ∷ lf ∷ [])) ++ rows u
 closed-within zero t u h = absurd (omega arith)

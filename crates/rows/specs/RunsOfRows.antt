@@ -42,10 +42,13 @@ part-first (b ∷ t) zero h = let k = after-shorter b t in absurd (omega arith)
 part-first (b ∷ t) (suc n) h = elim (split-bool (endsRow b t)) [
   | inl e ↦
       let j = ends-two b t e in
-      let k : 1 ≤ n = let i : suc (length t) - (length t - 1) ≤ suc n = rw (after-ends b t e, length-drop) at h in omega arith in
+      let i : suc (length t) - (length t - 1) ≤ suc n = rw (after-ends b t e, length-drop) at h in
+      let k : 1 ≤ n = omega arith in
       first-ends b (take n t) (part-ends b t n k e) ∙ sym (first-ends b t e)
   | inr e ↦
-      let k : rowSize t ≤ n = let w = after-within t in let i : suc (length t) - length (afterRow t) ≤ suc n = rw (after-more b t e) at h in omega arith in
+      let w = after-within t in
+      let i : suc (length t) - length (afterRow t) ≤ suc n = rw (after-more b t e) at h in
+      let k : rowSize t ≤ n = omega arith in
       first-more b (take n t) (part-goes-on b t n e) ∙ ap (λ l. b ∷ l) (part-first t n k) ∙ sym (first-more b t e)
 ]
 
@@ -66,12 +69,14 @@ part-after (b ∷ t) (suc n) h = elim (split-bool (endsRow b t)) [
       let i : suc (length t) - (length t - 1) ≤ suc n = rw (after-ends b t e, length-drop) at h in
       let k : 1 ≤ n = omega arith in
       let m : n - 1 ≡ suc n - (suc (length t) - (length t - 1)) = omega arith in
-      after-ends b (take n t) (part-ends b t n k e) ∙ take-drop t n ∙ ap (λ x. take x (drop 1 t)) m ∙ sym (rw (after-ends b t e, length-drop))
+      after-ends b (take n t) (part-ends b t n k e) ∙ take-drop t n ∙ ap (λ x. take x (drop 1 t)) m
+      ∙ sym (rw (after-ends b t e, length-drop))
   | inr e ↦
       let w = after-within t in
       let i : suc (length t) - length (afterRow t) ≤ suc n = rw (after-more b t e) at h in
       let m : n - rowSize t ≡ suc n - (suc (length t) - length (afterRow t)) = omega arith in
-      after-more b (take n t) (part-goes-on b t n e) ∙ part-after t n (omega arith) ∙ ap (λ x. take x (afterRow t)) m ∙ sym (rw (after-more b t e))
+      after-more b (take n t) (part-goes-on b t n e) ∙ part-after t n (omega arith) ∙ ap (λ x. take x (afterRow t)) m
+      ∙ sym (rw (after-more b t e))
 ]
 
 -- Rows that follow one another ----------------------------------------------------------------------------------------
@@ -110,12 +115,14 @@ rowsIn-next log at to h k =
     let z : rowSize t ≡ nextAt log at - at = size-at log at in
     let m : n - rowSize t ≡ to - nextAt log at = omega arith in
     rows-some (take n t) (part-some log at to h (omega arith))
-    ∙ ap₂ (λ x l. x ∷ rows l) (part-first t n (omega arith)) (part-after t n (omega arith) ∙ ap₂ take m (sym (drop-next log at (omega arith))))
+    ∙ ap₂ (λ x l. x ∷ rows l) (part-first t n (omega arith))
+    (part-after t n (omega arith) ∙ ap₂ take m (sym (drop-next log at (omega arith))))
 
 -- from one offset a reader comes to the other, and hands out these rows on its way
 pub data Passes (log : List ℕ) : ℕ → ℕ → List (List ℕ) → Type 0 where
   atOnce : {at : ℕ} → Passes log at at []
-  rowFirst : {at to : ℕ} {l : List (List ℕ)} → at < length log → Passes log (nextAt log at) to l → Passes log at to (rowAt log at ∷ l)
+  rowFirst : {at to : ℕ} {l : List (List ℕ)} → at < length log → Passes log (nextAt log at) to l
+      → Passes log at to (rowAt log at ∷ l)
 
 pub passes-on : {log : List ℕ} {at to : ℕ} {l : List (List ℕ)} → Passes log at to l → at ≤ to
 passes-on atOnce = omega arith
@@ -136,6 +143,7 @@ unfolding rowAt
 passes-cut atOnce = refl
 passes-cut {log} (rowFirst {at} h q) = rows-next log at h ∙ ap (λ l. rowAt log at ∷ l) (passes-cut q)
 
-pub passes-append : {log : List ℕ} {at mid to : ℕ} {l m : List (List ℕ)} → Passes log at mid l → Passes log mid to m → Passes log at to (l ++ m)
+pub passes-append : {log : List ℕ} {at mid to : ℕ} {l m : List (List ℕ)} → Passes log at mid l → Passes log mid to m
+    → Passes log at to (l ++ m)
 passes-append atOnce r = r
 passes-append (rowFirst h q) r = rowFirst h (passes-append q r)

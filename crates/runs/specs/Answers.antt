@@ -15,7 +15,8 @@ use Rattle.document.specs.Tables.{seenRoom, keptRoom, reportRoom}
 use Rattle.document.specs.Session.{Session, Happened, Outcome, written, withinRooms}
 
 -- what is taken passed the first test
-pub past-test : {A : Type 0} (t : Bool) (r : Refusal) (a : Answer A) (x : A) → refuseIf t r a ≡ taken x → (t ≡ false) × (a ≡ taken x)
+pub past-test : {A : Type 0} (t : Bool) (r : Refusal) (a : Answer A) (x : A) → refuseIf t r a ≡ taken x
+    → (t ≡ false) × (a ≡ taken x)
 past-test true r a x e = let z : _≡_ {A = ℕ} 0 1 = cc in absurd (omega arith)
 past-test false r a x e = (refl, e)
 
@@ -26,7 +27,8 @@ by-test true q a r o e = let z : r ≡ q = cc in inl (z, refl)
 by-test false q a r o e = inr e
 
 -- what follows a call that is taken
-pub past-call : {A B : Type 0} (a : Answer A) (f : A → Answer B) (y : B) → andThen a f ≡ taken y → (x : A) × (a ≡ taken x) × (f x ≡ taken y)
+pub past-call : {A B : Type 0} (a : Answer A) (f : A → Answer B) (y : B) → andThen a f ≡ taken y
+    → (x : A) × (a ≡ taken x) × (f x ≡ taken y)
 past-call (taken x) f y e = (x, refl, e)
 past-call (refused r o) f y e = let z : _≡_ {A = ℕ} 0 1 = cc in absurd (omega arith)
 
@@ -45,8 +47,8 @@ pub record InRoom (from : ℕ) (p : Property) (s : Session) (reports : List ℕ)
   pub reportsFit : length (o .rows) ≤ reportRoom (drop from reports)
   pub is : written from p s reports o ≡ h
 
-pub in-room : (from : ℕ) (p : Property) (s : Session) (reports : List ℕ) (o : Outcome) (h : Happened) → withinRooms from p s reports o ≡ taken h
-    → InRoom from p s reports o h
+pub in-room : (from : ℕ) (p : Property) (s : Session) (reports : List ℕ) (o : Outcome) (h : Happened)
+    → withinRooms from p s reports o ≡ taken h → InRoom from p s reports o h
 unfolding withinRooms
 in-room from p s reports o h q =
     let left = written from p s reports o in

@@ -63,7 +63,8 @@ module _ (text : List ℕ) (p : Property) (s : Session) (reports log : List ℕ)
 
   pub data Calls : Ran → Type 0 where
     refusedCall : {r : Refusal} {o : ℕ} → judged text p s ≡ refused r o → Calls (ranTo 0 at s reports 0 (refused r o))
-    pastLog : {d : Declared} → judged text p s ≡ taken d → length log < at → Calls (ranTo 0 at s reports 0 (refused offsetPastLog 0))
+    pastLog : {d : Declared} → judged text p s ≡ taken d → length log < at
+        → Calls (ranTo 0 at s reports 0 (refused offsetPastLog 0))
     takenCall : {d : Declared} → judged text p s ≡ taken d → at ≤ length log → Calls (runFrom budget d p log 0 at s reports 0)
 
   pub calls : Calls (run text p s reports log at budget)
@@ -85,12 +86,14 @@ call-covers text p s reports log at budget (takenCall {d} e h) = run-covers d p 
 
 -- "row limit in, rows taken out; equals the count of rows in the definition between the two offsets", for every answer
 pub runs : Runs
-runs = record { counts = λ text p s reports log at budget.
-    let c = call-covers text p s reports log at budget (calls text p s reports log at budget) in
-    let to = run text p s reports log at budget .next in
-    let k = c .count in
-    let z : length (c .covered) ≡ rowsBetween log at to = ap length (sym (passes-rows (c .passes))) ∙ sym (rowsIn-count log at to) in
-    omega arith }
+runs = record {
+  counts = λ text p s reports log at budget.
+      let c = call-covers text p s reports log at budget (calls text p s reports log at budget) in
+      let to = run text p s reports log at budget .next in
+      let k = c .count in
+      let z : length (c .covered) ≡ rowsBetween log at to = ap length (sym (passes-rows (c .passes))) ∙ sym (rowsIn-count log at to) in
+      omega arith;
+}
 
 -- Why a run stops ------------------------------------------------------------------------------------------------------
 
@@ -100,7 +103,8 @@ module _ (d : Declared) (p : Property) (log : List ℕ) where
     all : r .taken ≡ rows + budget → r .stop ≡ taken tt → Stops budget rows r
     atEnd : r .taken < rows + budget → length log ≤ r .next → r .stop ≡ taken tt → Stops budget rows r
     before : {q : Refusal} {o : ℕ} → r .taken < rows + budget → r .next < length log
-        → stepRow (r .happened .reported * reportStride) d p (r .happened .session) (r .happened .reports) (rowAt log (r .next)) ≡ refused q o
+        → stepRow (r .happened .reported * reportStride) d p (r .happened .session) (r .happened .reports) (rowAt log (r .next))
+        ≡ refused q o
         → r .stop ≡ refused q o → Stops budget rows r
 
   turns-stop : {budget rows at : ℕ} {s : Session} {reports : List ℕ} {count : ℕ} {r : Ran}

@@ -100,7 +100,8 @@ rows-ample d p s reports (bytes ∷ l) a =
     let h = leaves s reports (stepRow 0 d p s reports bytes) in
     rows-ample d p (h .session) (h .reports) l (row-ample d p s reports bytes a)
 
-pub rows-not-17 : (d : Declared) (p : Property) (s : Session) (reports : List ℕ) (l : List (List ℕ)) (bytes : List ℕ) (o : ℕ) → Ample s reports
+pub rows-not-17 : (d : Declared) (p : Property) (s : Session) (reports : List ℕ) (l : List (List ℕ)) (bytes : List ℕ) (o : ℕ)
+    → Ample s reports
     → let x = afterRows d p s reports l in stepRow 0 d p (x .session) (x .reports) bytes ≡ refused noRoomForReports o → ⊥
 rows-not-17 d p s reports l bytes o a q =
     let x = afterRows d p s reports l in

@@ -32,9 +32,11 @@ module _ (d : Declared) (p : Property) (n : ℕ) (s : Session) (reports held lat
   -- the row is held with its line end
   pub print-whole : Whole held
       → let a = stepRow 0 d p s reports (firstRow held) in let h = leaves s reports a in
-        rowLines d p n s reports (rows (held ++ later))
-        ≡ rowText p n a ++ rowLines d p (n + 1) (h .session) (h .reports) (rows (afterRow held ++ later))
-  print-whole w = ap (rowLines d p n s reports) (whole-rows held later w) ∙ lines-row d p n s reports (firstRow held) (rows (afterRow held ++ later))
+      rowLines d p n s reports (rows (held ++ later))
+      ≡ rowText p n a ++ rowLines d p (n + 1) (h .session) (h .reports) (rows (afterRow held ++ later))
+  print-whole w =
+      ap (rowLines d p n s reports) (whole-rows held later w)
+      ∙ lines-row d p n s reports (firstRow held) (rows (afterRow held ++ later))
 
   -- no line end is held, and more bytes than a row may have, the last not counted, which may be the CR of its line end
   pub print-long : Open held → rowBytes + 1 < length held → (k : ℕ) → k < length held
@@ -54,8 +56,8 @@ module _ (d : Declared) (p : Property) (n : ℕ) (s : Session) (reports held lat
 -- a part that ends with a line end: its rows are printed, and those of what follows go on from what they left
 pub print-closed : (d : Declared) (p : Property) (n : ℕ) (s : Session) (reports held later : List ℕ)
     → let l = rows (held ++ lineEnd) in let x = afterRows d p s reports l in
-      rowLines d p n s reports (rows (held ++ (cr ∷ lf ∷ later)))
-      ≡ rowLines d p n s reports l ++ rowLines d p (n + length l) (x .session) (x .reports) (rows later)
+    rowLines d p n s reports (rows (held ++ (cr ∷ lf ∷ later)))
+    ≡ rowLines d p n s reports l ++ rowLines d p (n + length l) (x .session) (x .reports) (rows later)
 print-closed d p n s reports held later =
     ap (rowLines d p n s reports) (closed-rows held later) ∙ lines-append d p n s reports (rows (held ++ lineEnd)) (rows later)
 

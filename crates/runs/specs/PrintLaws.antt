@@ -25,20 +25,20 @@ use Rattle.runs.specs.PrintPart.{rowText, afterRows, PrintedTo, nothingP
 -- a row's lines come first, and the others are printed from what it leaves
 pub lines-row : (d : Declared) (p : Property) (n : ℕ) (s : Session) (reports bytes : List ℕ) (more : List (List ℕ))
     → let a = stepRow 0 d p s reports bytes in let h = leaves s reports a in
-      rowLines d p n s reports (bytes ∷ more) ≡ rowText p n a ++ rowLines d p (n + 1) (h .session) (h .reports) more
+    rowLines d p n s reports (bytes ∷ more) ≡ rowText p n a ++ rowLines d p (n + 1) (h .session) (h .reports) more
 unfolding rowLines leaves
 lines-row d p n s reports bytes more = go (stepRow 0 d p s reports bytes) refl
   where
     go : (a : Answer Happened) → stepRow 0 d p s reports bytes ≡ a
         → let h = leaves s reports (stepRow 0 d p s reports bytes) in
-          rowLines d p n s reports (bytes ∷ more)
-          ≡ rowText p n (stepRow 0 d p s reports bytes) ++ rowLines d p (n + 1) (h .session) (h .reports) more
+        rowLines d p n s reports (bytes ∷ more)
+        ≡ rowText p n (stepRow 0 d p s reports bytes) ++ rowLines d p (n + 1) (h .session) (h .reports) more
     go (taken h) e = rw (e, rowLines)
     go (refused r o) e = rw (e, rowLines)
 
 pub lines-append : (d : Declared) (p : Property) (n : ℕ) (s : Session) (reports : List ℕ) (xs ys : List (List ℕ))
     → let x = afterRows d p s reports xs in
-      rowLines d p n s reports (xs ++ ys) ≡ rowLines d p n s reports xs ++ rowLines d p (n + length xs) (x .session) (x .reports) ys
+    rowLines d p n s reports (xs ++ ys) ≡ rowLines d p n s reports xs ++ rowLines d p (n + length xs) (x .session) (x .reports) ys
 unfolding afterRows rowLines
 lines-append d p n s reports [] ys = let z : n + 0 ≡ n = omega arith in rw z
 lines-append d p n s reports (bytes ∷ xs) ys =
@@ -48,8 +48,20 @@ lines-append d p n s reports (bytes ∷ xs) ys =
     let z : n + 1 + length xs ≡ n + suc (length xs) = omega arith in
     lines-row d p n s reports bytes (xs ++ ys)
     ∙ ap (λ l. rowText p n a ++ l) (lines-append d p (n + 1) (h .session) (h .reports) xs ys)
-    ∙ sym (append-assoc (rowText p n a) (rowLines d p (n + 1) (h .session) (h .reports) xs) (rowLines d p (n + 1 + length xs) (x .session) (x .reports) ys))
+    ∙ sym (append-assoc (rowText p n a) (rowLines d p (n + 1) (h .session) (h .reports) xs)
+    (rowLines d p (n + 1 + length xs) (x .session) (x .reports) ys))
     ∙ rw (lines-row d p n s reports bytes xs, z)
+
+-- lines in front of others are their lines in front
+lines-twice : (a b : List ℕ) (r : PrintedTo) → linesFirst a (linesFirst b r) ≡ linesFirst (a ++ b) r
+lines-twice a b r =
+    λ i. record {
+      lines = sym (append-assoc a b (r .lines)) i;
+      next = r .next;
+      number = r .number;
+      session = r .session;
+      reports = r .reports;
+    }
 
 -- Printing a part, turn by turn: no rows left to print, the log's end, a row ----------------------------------------------
 
@@ -62,15 +74,16 @@ module _ (d : Declared) (p : Property) (log : List ℕ) where
 
   pub print-row : (budget at n : ℕ) (s : Session) (reports : List ℕ) → at < length log
       → let a = stepRow 0 d p s reports (rowAt log at) in let h = leaves s reports a in
-        printFrom (suc budget) d p log at n s reports
-        ≡ linesFirst (rowText p n a) (printFrom budget d p log (nextAt log at) (n + 1) (h .session) (h .reports))
+      printFrom (suc budget) d p log at n s reports
+      ≡ linesFirst (rowText p n a) (printFrom budget d p log (nextAt log at) (n + 1) (h .session) (h .reports))
   unfolding printFrom
   print-row budget at n s reports h = rw (lt-leb (length log) at h, printFrom)
 
   -- one part after another
   pub print-append : (m k at n : ℕ) (s : Session) (reports : List ℕ)
       → let r = printFrom m d p log at n s reports in
-        printFrom (m + k) d p log at n s reports ≡ linesFirst (r .lines) (printFrom k d p log (r .next) (r .number) (r .session) (r .reports))
+      printFrom (m + k) d p log at n s reports
+      ≡ linesFirst (r .lines) (printFrom k d p log (r .next) (r .number) (r .session) (r .reports))
   unfolding printFrom
   print-append zero k at n s reports = rw zero-add
   print-append (suc m) k at n s reports = elim (either (leb (length log) at)) [
@@ -86,13 +99,7 @@ module _ (d : Declared) (p : Property) (log : List ℕ) where
         rw (z, print-row m at n s reports l)
         (print-row (m + k) at n s reports l
         ∙ ap (linesFirst (rowText p n a)) (print-append m k (nextAt log at) (n + 1) (h .session) (h .reports))
-        ∙ (λ i. record {
-          lines = sym (append-assoc (rowText p n a) (r .lines) (printFrom k d p log (r .next) (r .number) (r .session) (r .reports) .lines)) i;
-          next = printFrom k d p log (r .next) (r .number) (r .session) (r .reports) .next;
-          number = printFrom k d p log (r .next) (r .number) (r .session) (r .reports) .number;
-          session = printFrom k d p log (r .next) (r .number) (r .session) (r .reports) .session;
-          reports = printFrom k d p log (r .next) (r .number) (r .session) (r .reports) .reports;
-        }))
+        ∙ lines-twice (rowText p n a) (r .lines) (printFrom k d p log (r .next) (r .number) (r .session) (r .reports)))
   ]
 
   -- What is printed --------------------------------------------------------------------------------------------------------
@@ -107,7 +114,8 @@ module _ (d : Declared) (p : Property) (log : List ℕ) where
     pub reports : r .reports ≡ afterRows d p s lent covered .reports
     pub stops : (length covered ≡ budget) ⊎ (length log ≤ r .next)
 
-  pub prints : (budget at n : ℕ) (s : Session) (reports : List ℕ) → Prints budget at n s reports (printFrom budget d p log at n s reports)
+  pub prints : (budget at n : ℕ) (s : Session) (reports : List ℕ)
+      → Prints budget at n s reports (printFrom budget d p log at n s reports)
   unfolding printFrom afterRows rowLines
   prints zero at n s reports = record {
     covered = [];

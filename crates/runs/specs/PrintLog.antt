@@ -33,7 +33,8 @@ empty-of [] h = refl
 empty-of (x ∷ l) h = absurd (omega arith)
 
 -- where there are no more rows than may be printed, all are
-pub print-rest : (d : Declared) (p : Property) (log : List ℕ) (budget at n : ℕ) (s : Session) (reports : List ℕ) → length (rows (drop at log)) ≤ budget
+pub print-rest : (d : Declared) (p : Property) (log : List ℕ) (budget at n : ℕ) (s : Session) (reports : List ℕ)
+    → length (rows (drop at log)) ≤ budget
     → printFrom budget d p log at n s reports .lines ≡ rowLines d p n s reports (rows (drop at log))
 print-rest d p log budget at n s reports h =
     let r = printFrom budget d p log at n s reports in

@@ -41,9 +41,16 @@ nothingPrinted at n s reports = record { lines = []; next = at; number = n; sess
 
 -- the same, with lines in front
 abbrev pub linesFirst : List ℕ → PrintedTo → PrintedTo
-linesFirst text r = record { lines = text ++ r .lines; next = r .next; number = r .number; session = r .session; reports = r .reports }
+linesFirst text r = record {
+  lines = text ++ r .lines;
+  next = r .next;
+  number = r .number;
+  session = r .session;
+  reports = r .reports;
+}
 
--- at most `budget` rows from the offset `at` on, the first of them numbered n; it stops short of that many only at the log's end
+-- at most `budget` rows from the offset `at` on, the first of them numbered n; it stops short of that many only at the log's
+-- end
 unfoldable pub printFrom : ℕ → Declared → Property → List ℕ → ℕ → ℕ → Session → List ℕ → PrintedTo
 printFrom zero d p log at n s reports = nothingPrinted at n s reports
 printFrom (suc budget) d p log at n s reports =

@@ -89,7 +89,8 @@ length-reportNumbers : (p : Property) (k : Kept) → length (k .combination) ≡
 unfolding reportNumbers
 length-reportNumbers p k o = simp length-append (omega arith)
 
-numbers-length : (p : Property) (l : List Kept) → KeptWidth width l → length (joinedUp (list.map (reportNumbers p) l)) ≡ length l * reportStride
+numbers-length : (p : Property) (l : List Kept) → KeptWidth width l
+    → length (joinedUp (list.map (reportNumbers p) l)) ≡ length l * reportStride
 numbers-length p l o =
     length-joinedUp reportStride (list.map (reportNumbers p) l) (λ x i.
     let m = in-map (reportNumbers p) l x .0 i in

@@ -25,7 +25,8 @@ abbrev pub takenAs : {A B : Type 0} → (A → B) → Answer A → Answer B
 takenAs f (taken x) = taken (f x)
 takenAs f (refused r o) = refused r o
 
-refuse-as : {A B : Type 0} (f : A → B) (t : Bool) (r : Refusal) (a : Answer A) → refuseIf t r (takenAs f a) ≡ takenAs f (refuseIf t r a)
+refuse-as : {A B : Type 0} (f : A → B) (t : Bool) (r : Refusal) (a : Answer A)
+    → refuseIf t r (takenAs f a) ≡ takenAs f (refuseIf t r a)
 refuse-as f true r a = refl
 refuse-as f false r a = refl
 
@@ -43,7 +44,7 @@ module _ (front : List ℕ) (from : ℕ) (p : Property) (s : Session) (reports :
       let a : take (length front + from) (front ++ reports) ≡ front ++ take from reports = take-append-add front reports from in
       let b : drop (length front + from + n) (front ++ reports) ≡ drop (from + n) reports = rw z (drop-append-add front reports (from + n)) in
       let c : take (length front + from) (front ++ reports) ++ numbers ++ drop (length front + from + n) (front ++ reports)
-          ≡ front ++ (take from reports ++ numbers ++ drop (from + n) reports) = rw (a, b) (simp append-assoc) in
+      ≡ front ++ (take from reports ++ numbers ++ drop (from + n) reports) = rw (a, b) (simp append-assoc) in
       λ i. record { session = sessionWith s (o .seen) (o .kept); reports = c i; reported = length (o .rows) }
 
   rooms-front : (o : Outcome)
@@ -80,15 +81,21 @@ abbrev pub ranAfter : ℕ → ℕ → List ℕ → Ran → Ran
 ranAfter rows count front r = record {
   taken = rows + r .taken;
   next = r .next;
-  happened = record { session = r .happened .session; reports = front ++ r .happened .reports; reported = count + r .happened .reported };
+  happened = record {
+    session = r .happened .session;
+    reports = front ++ r .happened .reports;
+    reported = count + r .happened .reported;
+  };
   stop = r .stop;
 }
 
-module _ (d : Declared) (p : Property) (log : List ℕ) (rows₀ count₀ : ℕ) (front : List ℕ) (whole : length front ≡ count₀ * reportStride) where
+module _ (d : Declared) (p : Property) (log : List ℕ) (rows₀ count₀ : ℕ) (front : List ℕ)
+    (whole : length front ≡ count₀ * reportStride) where
   place : (count : ℕ) → (count₀ + count) * reportStride ≡ length front + count * reportStride
   place count = omega arith
 
-  turns-front : {budget rows at : ℕ} {s : Session} {reports : List ℕ} {count : ℕ} {r : Ran} → Turns d p log budget rows at s reports count r
+  turns-front : {budget rows at : ℕ} {s : Session} {reports : List ℕ} {count : ℕ} {r : Ran}
+      → Turns d p log budget rows at s reports count r
       → runFrom budget d p log (rows₀ + rows) at s (front ++ reports) (count₀ + count) ≡ ranAfter rows₀ count₀ front r
   unfolding ranTo
   turns-front (spent {rows} {at} {s} {reports} {count}) = run-spent d p log (rows₀ + rows) at s (front ++ reports) (count₀ + count)

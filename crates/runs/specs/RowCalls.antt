@@ -40,7 +40,8 @@ module _ (text : List ℕ) (p : Property) (s : Session) (reports bytes : List �
       → Holds p (extended p H n (t .brings .row .event) (t .brings .row .values)) (h .session)
   row-taken-holds H n x t = row-holds 0 (t .declared) p H s reports bytes h n (t .judges .range) x (t .brings)
 
-  pub row-taken-reached : (seen kept : List ℕ) (H : List Event) (n : ℕ) → Reached p seen kept H s → (t : RowTaken text p s reports bytes h)
+  pub row-taken-reached : (seen kept : List ℕ) (H : List Event) (n : ℕ) → Reached p seen kept H s
+      → (t : RowTaken text p s reports bytes h)
       → Reached p seen kept (extended p H n (t .brings .row .event) (t .brings .row .values)) (h .session)
   row-taken-reached seen kept H n x t =
       row-reached (t .declared) p seen kept 0 H s reports bytes h n (t .judges .range) (omega arith) x (t .brings)

@@ -45,7 +45,8 @@ row-says d bytes v q =
     let values = drop 1 (fields bytes) in
     let e = placeOf name (d .events) in
     let said : RowEvent = record { event = e; values = valuesOf values } in
-    let bad = ltb rowBytes (length bytes) || some (λ b. eqb b cr || eqb b lf || eqb b quote) bytes || not (eqb (length values) (length (d .parameters))) in
+    let many = not (eqb (length values) (length (d .parameters))) in
+    let bad = ltb rowBytes (length bytes) || some (λ b. eqb b cr || eqb b lf || eqb b quote) bytes || many in
     let binds = bindsExactly (getD (d .sets) e 0) (valuesOf values) in
     let fourth = refuseIf (not binds) wrongFields (taken said) in
     let third = refuseIf (some isBadValue values) badValue fourth in
@@ -74,19 +75,20 @@ pub record Brings (from : ℕ) (d : Declared) (p : Property) (s : Session) (repo
   pub proper : Proper p (row .event) (row .values)
   pub steps : stepFrom from p s reports (row .event) (row .values) ≡ taken h
 
-pub row-brings : (from : ℕ) (d : Declared) (p : Property) (s : Session) (reports bytes : List ℕ) (h : Happened) → agrees d p ≡ true
-    → (stepRow from d p s reports bytes ≡ taken h) ↔ Brings from d p s reports bytes h
+pub row-brings : (from : ℕ) (d : Declared) (p : Property) (s : Session) (reports bytes : List ℕ) (h : Happened)
+    → agrees d p ≡ true → (stepRow from d p s reports bytes ≡ taken h) ↔ Brings from d p s reports bytes h
 unfolding stepRow
 row-brings from d p s reports bytes h a = (
   (λ q.
       let c = past-call (rowEvent d bytes) (λ v. stepFrom from p s reports (v .event) (v .values)) h q in
-      record { row = c .0; reads = c .1; proper = says-proper d p (c .0) (agrees-of d p a) (row-says d bytes (c .0) (c .1)); steps = c .2 }),
+      let proper = says-proper d p (c .0) (agrees-of d p a) (row-says d bytes (c .0) (c .1)) in
+      record { row = c .0; reads = c .1; proper = proper; steps = c .2 }),
   (λ b. rw (b .reads) (b .steps)),
 )
 
 -- the session that it leaves holds the history with the row's event, numbered n
-pub row-holds : (from : ℕ) (d : Declared) (p : Property) (H : List Event) (s : Session) (reports bytes : List ℕ) (h : Happened) (n : ℕ)
-    → inRange p ≡ true → Holds p H s → (b : Brings from d p s reports bytes h)
+pub row-holds : (from : ℕ) (d : Declared) (p : Property) (H : List Event) (s : Session) (reports bytes : List ℕ) (h : Happened)
+    (n : ℕ) → inRange p ≡ true → Holds p H s → (b : Brings from d p s reports bytes h)
     → Holds p (extended p H n (b .row .event) (b .row .values)) (h .session)
 row-holds from d p H s reports bytes h n r st b =
     demand-3 .goesOn p H s r st from reports n (b .row .event) (b .row .values) h (b .proper) (b .steps)
@@ -104,17 +106,20 @@ pub row-refused : (from : ℕ) (d : Declared) (p : Property) (s : Session) (repo
     → (rowEvent d bytes ≡ refused r o)
     ⊎ ((v : RowEvent) × (rowEvent d bytes ≡ taken v) × (stepFrom from p s reports (v .event) (v .values) ≡ refused r o))
 unfolding stepRow
-row-refused from d p s reports bytes r o q = by-call (rowEvent d bytes) (λ v. stepFrom from p s reports (v .event) (v .values)) r o q
+row-refused from d p s reports bytes r o q =
+    by-call (rowEvent d bytes) (λ v. stepFrom from p s reports (v .event) (v .values)) r o q
 
 -- and they are refused by 18 to 21, the event by 15 to 17
-pub bytes-number : (d : Declared) (bytes : List ℕ) (r : Refusal) (o : ℕ) → rowEvent d bytes ≡ refused r o → (18 ≤ number r) × (number r ≤ 21)
+pub bytes-number : (d : Declared) (bytes : List ℕ) (r : Refusal) (o : ℕ) → rowEvent d bytes ≡ refused r o
+    → (18 ≤ number r) × (number r ≤ 21)
 unfolding rowEvent
 bytes-number d bytes r o q =
     let name = getD (fields bytes) 0 [] in
     let values = drop 1 (fields bytes) in
     let e = placeOf name (d .events) in
     let said : RowEvent = record { event = e; values = valuesOf values } in
-    let bad = ltb rowBytes (length bytes) || some (λ b. eqb b cr || eqb b lf || eqb b quote) bytes || not (eqb (length values) (length (d .parameters))) in
+    let many = not (eqb (length values) (length (d .parameters))) in
+    let bad = ltb rowBytes (length bytes) || some (λ b. eqb b cr || eqb b lf || eqb b quote) bytes || many in
     let binds = bindsExactly (getD (d .sets) e 0) (valuesOf values) in
     let fourth = refuseIf (not binds) wrongFields (taken said) in
     let third = refuseIf (some isBadValue values) badValue fourth in

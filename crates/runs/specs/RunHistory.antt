@@ -47,10 +47,12 @@ module _ (d : Declared) (p : Property) (log : List ℕ) where
   pub unchanged : (P : List Event → Session → Type 0) (H : List Event) (n rows at : ℕ) (s : Session) (reports : List ℕ) (count : ℕ)
       (stop : Answer (Unit {0})) → P H s → Extends P H n at (ranTo rows at s reports count stop)
   unfolding historyOf ranTo
-  unchanged P H n rows at s reports count stop h = record { covered = []; passes = atOnce; each = refl; holds = rw (append-nil H) h }
+  unchanged P H n rows at s reports count stop h =
+      record { covered = []; passes = atOnce; each = refl; holds = rw (append-nil H) h }
 
   pub one-more : (P : List Event → Session → Type 0) (H : List Event) (n at : ℕ) (v : RowEvent) (r : Ran) → at < length log
-      → rowEvent d (rowAt log at) ≡ taken v → Extends P (extended p H n (v .event) (v .values)) (n + 1) (nextAt log at) r → Extends P H n at r
+      → rowEvent d (rowAt log at) ≡ taken v → Extends P (extended p H n (v .event) (v .values)) (n + 1) (nextAt log at) r
+      → Extends P H n at r
   one-more P H n at v r l e x =
       let this : Event = record { row = n; event = v .event; binding = v .values } in
       let rest = historyOf d (n + 1) (x .covered) in
@@ -65,18 +67,22 @@ module _ (d : Declared) (p : Property) (log : List ℕ) where
   -- Histories that are held ---------------------------------------------------------------------------------------------
 
   module _ (range : inRange p ≡ true) (agree : agrees d p ≡ true) where
-    turns-hold : {budget rows at : ℕ} {s : Session} {reports : List ℕ} {count : ℕ} {r : Ran} → Turns d p log budget rows at s reports count r
-        → (H : List Event) (n : ℕ) → Holds p H s → Extends (Holds p) H n at r
+    turns-hold : {budget rows at : ℕ} {s : Session} {reports : List ℕ} {count : ℕ} {r : Ran}
+        → Turns d p log budget rows at s reports count r → (H : List Event) (n : ℕ) → Holds p H s → Extends (Holds p) H n at r
     turns-hold (spent {rows} {at} {s} {reports} {count}) H n h = unchanged (Holds p) H n rows at s reports count (taken tt) h
-    turns-hold (ended {budget} {rows} {at} {s} {reports} {count} l) H n h = unchanged (Holds p) H n rows at s reports count (taken tt) h
-    turns-hold (stopped {budget} {rows} {at} {s} {reports} {count} {r} {o} l e) H n h = unchanged (Holds p) H n rows at s reports count (refused r o) h
+    turns-hold (ended {budget} {rows} {at} {s} {reports} {count} l) H n h =
+        unchanged (Holds p) H n rows at s reports count (taken tt) h
+    turns-hold (stopped {budget} {rows} {at} {s} {reports} {count} {r} {o} l e) H n h =
+        unchanged (Holds p) H n rows at s reports count (refused r o) h
     turns-hold {r = r} (passed {budget} {rows} {at} {s} {reports} {count} {h = x} l e t) H n h =
         let b = row-brings (count * reportStride) d p s reports (rowAt log at) x agree .0 e in
+        let held = row-holds (count * reportStride) d p H s reports (rowAt log at) x n range h b in
         one-more (Holds p) H n at (b .row) r l (b .reads)
-        (turns-hold t (extended p H n (b .row .event) (b .row .values)) (n + 1) (row-holds (count * reportStride) d p H s reports (rowAt log at) x n range h b))
+        (turns-hold t (extended p H n (b .row .event) (b .row .values)) (n + 1) held)
 
     pub run-holds : (budget rows at : ℕ) (s : Session) (reports : List ℕ) (count : ℕ) (H : List Event) (n : ℕ) → Holds p H s
-        → let r = runFrom budget d p log rows at s reports count in Holds p (H ++ historyOf d n (rowsIn log at (r .next))) (r .happened .session)
+        → let r = runFrom budget d p log rows at s reports count in
+        Holds p (H ++ historyOf d n (rowsIn log at (r .next))) (r .happened .session)
     run-holds budget rows at s reports count H n h =
         let x = turns-hold (turns d p log budget rows at s reports count) H n h in
         rw (passes-rows (x .passes)) (x .holds)

@@ -48,8 +48,8 @@ step-left from p s reports e b h l q =
     (x .0, x .1, ap (λ (k : Happened). k .session) (x .2))
 
 module _ (d : Declared) (p : Property) (seen kept : List ℕ) where
-  pub row-reached : (from : ℕ) (H : List Event) (s : Session) (reports bytes : List ℕ) (h : Happened) (n : ℕ) → inRange p ≡ true → from ≤ length reports
-      → Reached p seen kept H s → (b : Brings from d p s reports bytes h)
+  pub row-reached : (from : ℕ) (H : List Event) (s : Session) (reports bytes : List ℕ) (h : Happened) (n : ℕ)
+      → inRange p ≡ true → from ≤ length reports → Reached p seen kept H s → (b : Brings from d p s reports bytes h)
       → Reached p seen kept (extended p H n (b .row .event) (b .row .values)) (h .session)
   row-reached from H s reports bytes h n range l R b =
       let e = b .row .event in
@@ -65,23 +65,28 @@ module _ (d : Declared) (p : Property) (log seen kept : List ℕ) (range : inRan
   abbrev Fresh : List Event → Session → Type 0
   Fresh H s = Reached p seen kept H s
 
-  turns-reach : {budget rows at : ℕ} {s : Session} {reports : List ℕ} {count : ℕ} {r : Ran} → Turns d p log budget rows at s reports count r
+  turns-reach : {budget rows at : ℕ} {s : Session} {reports : List ℕ} {count : ℕ} {r : Ran}
+      → Turns d p log budget rows at s reports count r
       → (H : List Event) (n : ℕ) → count * reportStride ≤ length reports → Reached p seen kept H s → Extends d p log Fresh H n at r
-  turns-reach (spent {rows} {at} {s} {reports} {count}) H n f h = unchanged d p log Fresh H n rows at s reports count (taken tt) h
-  turns-reach (ended {budget} {rows} {at} {s} {reports} {count} l) H n f h = unchanged d p log Fresh H n rows at s reports count (taken tt) h
-  turns-reach (stopped {budget} {rows} {at} {s} {reports} {count} {r} {o} l e) H n f h = unchanged d p log Fresh H n rows at s reports count (refused r o) h
+  turns-reach (spent {rows} {at} {s} {reports} {count}) H n f h =
+      unchanged d p log Fresh H n rows at s reports count (taken tt) h
+  turns-reach (ended {budget} {rows} {at} {s} {reports} {count} l) H n f h =
+      unchanged d p log Fresh H n rows at s reports count (taken tt) h
+  turns-reach (stopped {budget} {rows} {at} {s} {reports} {count} {r} {o} l e) H n f h =
+      unchanged d p log Fresh H n rows at s reports count (refused r o) h
   turns-reach {r = r} (passed {budget} {rows} {at} {s} {reports} {count} {h = x} l e t) H n f h =
       let from = count * reportStride in
       let b = row-brings from d p s reports (rowAt log at) x agree .0 e in
       let k = step-reports from p s reports (b .row .event) (b .row .values) x (b .proper .width) f (b .steps) in
       let g : (count + x .reported) * reportStride ≤ length (x .reports) = let i = k .same in let j = k .inside in omega arith in
+      let reached = row-reached d p seen kept from H s reports (rowAt log at) x n range f h b in
       one-more d p log Fresh H n at (b .row) r l (b .reads)
-      (turns-reach t (extended p H n (b .row .event) (b .row .values)) (n + 1) g (row-reached d p seen kept from H s reports (rowAt log at) x n range f h b))
+      (turns-reach t (extended p H n (b .row .event) (b .row .values)) (n + 1) g reached)
 
   pub run-reached : (budget rows at : ℕ) (s : Session) (reports : List ℕ) (count : ℕ) (H : List Event) (n : ℕ)
       → count * reportStride ≤ length reports → Reached p seen kept H s
       → let r = runFrom budget d p log rows at s reports count in
-        Reached p seen kept (H ++ historyOf d n (rowsIn log at (r .next))) (r .happened .session)
+      Reached p seen kept (H ++ historyOf d n (rowsIn log at (r .next))) (r .happened .session)
   run-reached budget rows at s reports count H n f h =
       let x = turns-reach (turns d p log budget rows at s reports count) H n f h in
       rw (passes-rows (x .passes)) (x .holds)
@@ -91,15 +96,18 @@ module _ (d : Declared) (p : Property) (log seen kept : List ℕ) (range : inRan
 declared-one : (text : List ℕ) (d e : Declared) → declarations text ≡ taken d → declarations text ≡ taken e → d ≡ e
 declared-one text d e p q = taken-one (sym p ∙ q)
 
-pub call-holds : (text : List ℕ) (p : Property) (s : Session) (reports log : List ℕ) (at budget : ℕ) (d : Declared) (H : List Event) (n : ℕ)
-    → declarations text ≡ taken d → Holds p H s
-    → let r = run text p s reports log at budget in Holds p (H ++ historyOf d n (rowsIn log at (r .next))) (r .happened .session)
+pub call-holds : (text : List ℕ) (p : Property) (s : Session) (reports log : List ℕ) (at budget : ℕ)
+    (d : Declared) (H : List Event) (n : ℕ) → declarations text ≡ taken d → Holds p H s
+    → let r = run text p s reports log at budget in
+    Holds p (H ++ historyOf d n (rowsIn log at (r .next))) (r .happened .session)
 unfolding historyOf ranTo
 call-holds text p s reports log at budget d H n e h = go (calls text p s reports log at budget)
   where
     still : Holds p (H ++ historyOf d n (rowsIn log at at)) s
     still = rw (rowsIn-none log at, append-nil H) h
-    go : {r : Ran} → Calls text p s reports log at budget r → Holds p (H ++ historyOf d n (rowsIn log at (r .next))) (r .happened .session)
+
+    go : {r : Ran} → Calls text p s reports log at budget r
+        → Holds p (H ++ historyOf d n (rowsIn log at (r .next))) (r .happened .session)
     go (refusedCall q) = still
     go (pastLog q l) = still
     go (takenCall {d = x} q l) =

@@ -59,7 +59,7 @@ sound-rows p s e =
     let pasts = every past seen && every past (combinations kept) in
     let rights = every (rightlyKept p seen) kept in
     let zeros = zeroBetween (s .seenCount * seenStride) (seenRoom (s .seen) * seenStride) (s .seen)
-        && zeroBetween (s .keptCount * keptStride) (keptRoom (s .kept) * keptStride) (s .kept) in
+    && zeroBetween (s .keptCount * keptStride) (keptRoom (s .kept) * keptStride) (s .kept) in
     let h₁ = and-of (rooms && orders && bounds && pasts && rights) zeros (so e) in
     let h₂ = and-of (rooms && orders && bounds && pasts) rights (h₁ .0) in
     let h₃ = and-of (rooms && orders && bounds) pasts (h₂ .0) in
@@ -68,11 +68,11 @@ sound-rows p s e =
     let order = and-of (ascending seen) (ascending (combinations kept)) (h₅ .1) in
     let zero = and-of (every past seen) (every past (combinations kept)) (h₃ .1) in
     let right : (k : Kept) → In k kept
-        → T (ltb (k .state) (p .states)) × T (hopeful p (k .state)) × T (equal (joinSeen width (k .combination) seen) (k .combination)) = λ k i.
-        let t = every-of (rightlyKept p seen) kept (h₂ .1) k i in
-        let a = and-of (ltb (k .state) (p .states) && hopeful p (k .state)) (equal (joinSeen width (k .combination) seen) (k .combination)) t in
-        let b = and-of (ltb (k .state) (p .states)) (hopeful p (k .state)) (a .0) in
-        (b .0, b .1, a .1) in
+    → T (ltb (k .state) (p .states)) × T (hopeful p (k .state)) × T (equal (joinSeen width (k .combination) seen) (k .combination)) = λ k i.
+    let t = every-of (rightlyKept p seen) kept (h₂ .1) k i in
+    let a = and-of (ltb (k .state) (p .states) && hopeful p (k .state)) (equal (joinSeen width (k .combination) seen) (k .combination)) t in
+    let b = and-of (ltb (k .state) (p .states)) (hopeful p (k .state)) (a .0) in
+    (b .0, b .1, a .1) in
     record {
       seenWidth = seen-width s;
       keptWidth = kept-width s;

@@ -36,7 +36,8 @@ module _ (d : Declared) (p : Property) (range : inRange p ≡ true) (agree : agr
   run-sound log budget rows at s reports count f = turns-sound (turns d p log budget rows at s reports count) f
 
   -- rows one after another, refused ones skipped
-  pub rows-stay-sound : (l : List (List ℕ)) (s : Session) (reports : List ℕ) → sound p s ≡ true → sound p (afterRows d p s reports l .session) ≡ true
+  pub rows-stay-sound : (l : List (List ℕ)) (s : Session) (reports : List ℕ) → sound p s ≡ true
+      → sound p (afterRows d p s reports l .session) ≡ true
   unfolding afterRows leaves
   rows-stay-sound [] s reports f = f
   rows-stay-sound (bytes ∷ l) s reports f =

@@ -166,7 +166,8 @@ module _ (p : Property) (range : inRange p ≡ true) (seen : List (List ℕ)) (k
   abbrev keptRows : List Kept
   keptRows = keptAfter width (nextState p) e b seen (keeps p) kept
 
-  in-keptRows : (x : Kept) → In x keptRows → (In x movedRows × T (hopeful p (x .state))) ⊎ (In x kept × (includes (x .combination) b ≡ false))
+  in-keptRows : (x : Kept) → In x keptRows
+      → (In x movedRows × T (hopeful p (x .state))) ⊎ (In x kept × (includes (x .combination) b ≡ false))
   unfolding keptAfter keeps
   in-keptRows x i =
       let new = keepIf (keeps p) movedRows in
@@ -208,7 +209,8 @@ module _ (p : Property) (range : inRange p ≡ true) (seen : List (List ℕ)) (k
       let m = in-map combination new x .0 i in
       let n = in-map combination same x .0 j in
       let t = moved-includes (m .of) (in-keepIf (keeps p) movedRows (m .of) .0 (m .member) .0) in
-      not-so (not-of (includes (n .of .combination) b) (in-keepIf stays kept (n .of) .0 (n .member) .1)) (rw (sym (m .is) ∙ n .is) at t))))
+      not-so (not-of (includes (n .of .combination) b) (in-keepIf stays kept (n .of) .0 (n .member) .1))
+      (rw (sym (m .is) ∙ n .is) at t))))
 
   pub sound-after : SoundRows p seenAfter keptRows
   sound-after = record {
@@ -228,11 +230,11 @@ module _ (p : Property) (range : inRange p ≡ true) (seen : List (List ℕ)) (k
   }
 
 -- an accepted event leaves a sound session
-pub step-sound : (from : ℕ) (p : Property) (s : Session) (reports : List ℕ) (e : ℕ) (b : List ℕ) (h : Happened) → inRange p ≡ true → sound p s ≡ true
-    → Proper p e b → stepFrom from p s reports e b ≡ taken h → sound p (h .session) ≡ true
+pub step-sound : (from : ℕ) (p : Property) (s : Session) (reports : List ℕ) (e : ℕ) (b : List ℕ) (h : Happened)
+    → inRange p ≡ true → sound p s ≡ true → Proper p e b → stepFrom from p s reports e b ≡ taken h → sound p (h .session) ≡ true
 unfolding stepFrom written outcome
 step-sound from p s reports e b h range f proper q =
     let o = outcome p s e b in
     let x = in-room from p s reports o h q in
-    rw (← (x .is))
-    (rows-sound p s (o .seen) (o .kept) (sound-after p range (seenOf s) (keptOf s) (sound-rows p s f) e b proper) (x .seenFit) (x .keptFit))
+    let rows = sound-after p range (seenOf s) (keptOf s) (sound-rows p s f) e b proper in
+    rw (← (x .is)) (rows-sound p s (o .seen) (o .kept) rows (x .seenFit) (x .keptFit))

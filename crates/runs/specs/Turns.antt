@@ -61,12 +61,12 @@ module _ (d : Declared) (p : Property) (log : List ℕ) where
   turns (suc budget) rows at s reports count = elim (either (leb (length log) at)) [
     | inl e ↦ let h = leb-true (length log) at e in rw (run-ended (suc budget) rows at s reports count h) (ended h)
     | inr e ↦ step (leb-false (length log) at e) (stepRow (count * reportStride) d p s reports (rowAt log at)) refl
-      (λ h. turns budget (rows + 1) (nextAt log at) (h .session) (h .reports) (count + h .reported))
+        (λ h. turns budget (rows + 1) (nextAt log at) (h .session) (h .reports) (count + h .reported))
   ]
     where
       step : at < length log → (a : Answer Happened) → stepRow (count * reportStride) d p s reports (rowAt log at) ≡ a
           → ((h : Happened) → Turns budget (rows + 1) (nextAt log at) (h .session) (h .reports) (count + h .reported)
-            (runFrom budget d p log (rows + 1) (nextAt log at) (h .session) (h .reports) (count + h .reported)))
+          (runFrom budget d p log (rows + 1) (nextAt log at) (h .session) (h .reports) (count + h .reported)))
           → Turns (suc budget) rows at s reports count (runFrom (suc budget) d p log rows at s reports count)
       step l (refused r o) e f = rw (run-refused budget rows at s reports count r o l e) (stopped l e)
       step l (taken h) e f = rw (run-taken budget rows at s reports count h l e) (passed l e (f h))

@@ -26,16 +26,16 @@ use Rattle.runs.specs.SoundRuns.{run-sound}
 
 -- The reports of a run lie in the numbers lent -------------------------------------------------------------------------
 
-pub row-reports : (from : ℕ) (d : Declared) (p : Property) (s : Session) (reports bytes : List ℕ) (h : Happened) → from ≤ length reports
-    → stepRow from d p s reports bytes ≡ taken h → Reports from reports h
+pub row-reports : (from : ℕ) (d : Declared) (p : Property) (s : Session) (reports bytes : List ℕ) (h : Happened)
+    → from ≤ length reports → stepRow from d p s reports bytes ≡ taken h → Reports from reports h
 unfolding stepRow
 row-reports from d p s reports bytes h l q =
     let c = past-call (rowEvent d bytes) (λ v. stepFrom from p s reports (v .event) (v .values)) h q in
     step-reports from p s reports (c .0 .event) (c .0 .values) h (row-says d bytes (c .0) (c .1) .width) l (c .2)
 
 module _ (d : Declared) (p : Property) (log : List ℕ) where
-  turns-reports : {budget rows at : ℕ} {s : Session} {reports : List ℕ} {count : ℕ} {r : Ran} → Turns d p log budget rows at s reports count r
-      → count * reportStride ≤ length reports
+  turns-reports : {budget rows at : ℕ} {s : Session} {reports : List ℕ} {count : ℕ} {r : Ran}
+      → Turns d p log budget rows at s reports count r → count * reportStride ≤ length reports
       → (length (r .happened .reports) ≡ length reports) × (r .happened .reported * reportStride ≤ length reports)
   unfolding ranTo
   turns-reports spent f = (refl, f)
@@ -49,7 +49,7 @@ module _ (d : Declared) (p : Property) (log : List ℕ) where
 
   pub run-reports : (budget rows at : ℕ) (s : Session) (reports : List ℕ) (count : ℕ) → count * reportStride ≤ length reports
       → let r = runFrom budget d p log rows at s reports count in
-        (length (r .happened .reports) ≡ length reports) × (r .happened .reported * reportStride ≤ length reports)
+      (length (r .happened .reports) ≡ length reports) × (r .happened .reported * reportStride ≤ length reports)
   run-reports budget rows at s reports count f = turns-reports (turns d p log budget rows at s reports count) f
 
 -- The report numbers that a run filled, and those that it left -----------------------------------------------------------
@@ -85,7 +85,7 @@ module _ (text : List ℕ) (p : Property) (s : Session) (reports log : List ℕ)
 
   -- and else a second call goes on from there: the session that the first left is sound, and its offset lies in the log
   pub two-calls : run text p s reports log at m .stop ≡ taken tt
-      → run text p s reports log at (m + n) ≡ joined (run text p s reports log at m) (callAgain text p log n (run text p s reports log at m))
+      → let r = run text p s reports log at m in run text p s reports log at (m + n) ≡ joined r (callAgain text p log n r)
   unfolding ranTo
   two-calls e = go (calls text p s reports log at m) e
     where
@@ -105,11 +105,12 @@ module _ (text : List ℕ) (p : Property) (s : Session) (reports log : List ℕ)
           let c = run-covers d p log m 0 at s reports 0 in
           let again : callAgain text p log n r ≡ runFrom n d p log 0 (r .next) t (reportsLeft r) 0 =
           call-runs text p t (reportsLeft r) log (r .next) n d
-          (of-judged text p t d (record { declares = k .declares; range = k .range; agree = k .agree; sound = f })) (passes-within (c .passes) l) in
+          (of-judged text p t d (record { declares = k .declares; range = k .range; agree = k .agree; sound = f }))
+          (passes-within (c .passes) l) in
           let a : r .taken + 0 ≡ r .taken = omega arith in
           let b : count + 0 ≡ count = omega arith in
           let on : runFrom n d p log (r .taken) (r .next) t (r .happened .reports) count
-              ≡ ranAfter (r .taken) count (reportsMade r) (runFrom n d p log 0 (r .next) t (reportsLeft r) 0) =
+          ≡ ranAfter (r .taken) count (reportsMade r) (runFrom n d p log 0 (r .next) t (reportsLeft r) 0) =
           rw (a, b, take-append-drop (count * reportStride) (r .happened .reports)) at
           (run-front d p log (r .taken) count (reportsMade r) front n 0 (r .next) t (reportsLeft r) 0) in
           whole-call d j l ∙ goesOn-taken d p log n r tt e ∙ on ∙ ap (joined r) (sym again)

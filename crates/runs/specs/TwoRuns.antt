@@ -17,7 +17,8 @@ use Rattle.runs.specs.Turns.{run-ended, run-refused, run-taken, Turns, s
 module _ (d : Declared) (p : Property) (log : List ℕ) where
   -- a run of n rows more from where one stopped: its rows and reports counted on. After a refusal there is none.
   abbrev pub goesOnAfter : ℕ → Ran → Answer (Unit {0}) → Ran
-  goesOnAfter n r (taken u) = runFrom n d p log (r .taken) (r .next) (r .happened .session) (r .happened .reports) (r .happened .reported)
+  goesOnAfter n r (taken u) =
+      runFrom n d p log (r .taken) (r .next) (r .happened .session) (r .happened .reports) (r .happened .reported)
   goesOnAfter n r (refused q o) = r
 
   unfoldable pub goesOn : ℕ → Ran → Ran
@@ -41,8 +42,8 @@ module _ (d : Declared) (p : Property) (log : List ℕ) where
       ∙ run-ended d p log n (r .taken) (r .next) (r .happened .session) (r .happened .reports) (r .happened .reported) h
       ∙ (λ i. record { taken = r .taken; next = r .next; happened = r .happened; stop = sym e i })
 
-  turns-go-on : (n : ℕ) {m rows at : ℕ} {s : Session} {reports : List ℕ} {count : ℕ} {r : Ran} → Turns d p log m rows at s reports count r
-      → runFrom (m + n) d p log rows at s reports count ≡ goesOn n r
+  turns-go-on : (n : ℕ) {m rows at : ℕ} {s : Session} {reports : List ℕ} {count : ℕ} {r : Ran}
+      → Turns d p log m rows at s reports count r → runFrom (m + n) d p log rows at s reports count ≡ goesOn n r
   unfolding goesOn ranTo
   turns-go-on n spent = rw zero-add
   turns-go-on n (ended {budget} {rows} {at} {s} {reports} {count} h) =
