@@ -1,12 +1,11 @@
 -- Laws of the loops over a text's bytes: how far a run of bytes goes, and whether a word stands at a place.
 -- Assumes nothing.
-use Prim.Native.Nat.{ℕ, zero, suc, _+_, _-_, _≤_, _<_}
-use mathlib.Core.Path.{_≡_, refl, sym, ap, _∙_}
-use mathlib.Core.Bool.{Bool, true, false, not, cond, _&&_, and-false}
+use Prim.Native.Nat.{ℕ, _+_, _-_, _≤_, _<_}
+use mathlib.Core.Path.{_≡_, refl, sym, _∙_}
+use mathlib.Core.Bool.{Bool, true, false, not, and-false}
 use mathlib.Core.List.{List, [], _∷_}
 use lib.ListN.{length, getD, drop, length-drop}
-use lib.Seq.{getD-drop, drop-drop}
-use lib.Dec.{eqb, leb, ltb}
+use lib.Dec.{eqb}
 use native.Mathlib.Omega.{arith}
 use borrow.Author.Tests.{eq-eqb, ne-eqb, not-true, not-false, lt-ltb, le-ltb, le-leb, lt-leb}
 use Rattle.document.specs.Lists.{takeWhile, startsWith}
@@ -24,7 +23,7 @@ module _ (p : ℕ → Bool) (s : List ℕ) (at i : ℕ) (q : i + length (takeWhi
   run-stops h d e n = let k = rw (drop-here s i h, sym e ∙ not-true d n, takeWhile) at q in omega arith
 
   pub run-goes-on : i < length s → (d : Bool) → d ≡ p (getD s i 0) → not d ≡ false
-    → i + 1 + length (takeWhile p (drop (i + 1) s)) ≡ at + length (takeWhile p (drop at s))
+      → i + 1 + length (takeWhile p (drop (i + 1) s)) ≡ at + length (takeWhile p (drop at s))
   unfolding takeWhile
   run-goes-on h d e n = let k = rw (drop-here s i h, sym e ∙ not-false d n, takeWhile) at q in omega arith
 
@@ -59,17 +58,17 @@ module _ (w s : List ℕ) (at i : ℕ) (fit : length w ≤ length s - at) (q : s
 
 -- What stands after an `@`, by the words that may.
 pub ask-match : (s : List ℕ) (at : ℕ) → 1 ≤ at → (e : Bool) → e ≡ startsWith matchWord (drop at s) → e ≡ true
-  → record { kind = askMatchKind; end = at + 5 } ≡ askHere s at
+    → record { kind = askMatchKind; end = at + 5 } ≡ askHere s at
 unfolding askHere shown askToken
 ask-match s at h e q t = let k : at - 1 + 6 ≡ at + 5 = omega arith in rw (sym q ∙ t, k)
 
 pub ask-fail : (s : List ℕ) (at : ℕ) → 1 ≤ at → (e : Bool) → e ≡ startsWith matchWord (drop at s) → e ≡ false
-  → (f : Bool) → f ≡ startsWith failWord (drop at s) → f ≡ true → record { kind = askFailKind; end = at + 4 } ≡ askHere s at
+    → (f : Bool) → f ≡ startsWith failWord (drop at s) → f ≡ true → record { kind = askFailKind; end = at + 4 } ≡ askHere s at
 unfolding askHere shown askToken
 ask-fail s at h e q t f r u = let k : at - 1 + 5 ≡ at + 4 = omega arith in rw (sym q ∙ t, sym r ∙ u, k)
 
 pub ask-none : (s : List ℕ) (at : ℕ) → 1 ≤ at → (e : Bool) → e ≡ startsWith matchWord (drop at s) → e ≡ false
-  → (f : Bool) → f ≡ startsWith failWord (drop at s) → f ≡ false → record { kind = noKind; end = at } ≡ askHere s at
+    → (f : Bool) → f ≡ startsWith failWord (drop at s) → f ≡ false → record { kind = noKind; end = at } ≡ askHere s at
 unfolding askHere shown askToken
 ask-none s at h e q t f r u = let k : at - 1 + 1 ≡ at = omega arith in rw (sym q ∙ t, sym r ∙ u, k)
 
