@@ -23,7 +23,7 @@ use Rattle.runs.specs.Answers.{past-test, past-call, taken-one, in-room,
 use Rattle.runs.specs.ReportRows.{reports-few}
 use Rattle.runs.specs.RowEvents.{row-refused, bytes-number}
 use Rattle.runs.specs.TwoCalls.{row-reports}
-use Rattle.runs.specs.PrintPart.{afterRows}
+use Rattle.runs.specs.PrintPart.{afterRows, programNumbers}
 
 -- the kept rows are within their limit, and the report room holds as many
 pub record Ample (s : Session) (lent : List ℕ) : Type 0 where
@@ -123,8 +123,8 @@ room-of : (n : ℕ) → mostKept * reportStride ≤ n → mostKept ≤ reportRoo
 unfolding reportRoom
 room-of n h = rw length-replicate (omega arith)
 
-pub program-ample : (p : Property) (s : Session) → programSession p ≡ taken s → Ample s (replicate (programReports * reportStride) 0)
-unfolding programSession
+pub program-ample : (p : Property) (s : Session) → programSession p ≡ taken s → Ample s programNumbers
+unfolding programSession programNumbers
 program-ample p s q = record {
   kept = start-kept p (replicate (mostSeen * seenStride) 0) (replicate (mostKept * keptStride) 0) s q;
   reports = room-of (programReports * reportStride) (omega arith);

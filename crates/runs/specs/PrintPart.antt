@@ -2,11 +2,12 @@
 -- What the program prints of a log is the lines of its rows (`rowLines`); a part is printed by the same rules, row by row,
 -- each row with the whole report room, and says from where the next part goes on.
 -- Assumes nothing.
-use Prim.Native.Nat.{ℕ, zero, suc, _+_}
+use Prim.Native.Nat.{ℕ, zero, suc, _+_, _*_}
 use mathlib.Core.Bool.{true, false}
 use mathlib.Core.List.{List, [], _∷_, _++_}
-use lib.ListN.{length}
+use lib.ListN.{length, replicate}
 use lib.Dec.{leb}
+use Rattle.document.specs.Limits.{reportStride, programReports}
 use Rattle.document.specs.Refusals.{Answer, taken, refused}
 use Rattle.document.specs.Declarations.{Declared}
 use Rattle.document.specs.Property.{Property}
@@ -27,6 +28,10 @@ afterRows d p s reports (bytes ∷ more) =
     let h = leaves s reports (stepRow 0 d p s reports bytes) in
     let rest = afterRows d p (h .session) (h .reports) more in
     record { session = rest .session; reports = rest .reports; reported = h .reported + rest .reported }
+
+-- the report numbers of the program, cleared
+unfoldable pub programNumbers : List ℕ
+programNumbers = replicate (programReports * reportStride) 0
 
 -- what printing a part answers: the lines, the offset and the number of the row that comes next, and what is left for it
 pub record PrintedTo : Type 0 where
