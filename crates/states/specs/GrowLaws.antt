@@ -3,34 +3,31 @@
 -- Assumes nothing.
 use Prim.Native.Nat.{ℕ, zero, suc, _+_, _-_, _*_, _/_, _%_, _≤_, _<_}
 use native.Mathlib.Omega.{arith}
-use native.Mathlib.Numerals.{add-one}
-use native.Mathlib.Nat.{mod-lt, div-add-mod', zero-lt-suc, div-lt-iff-lt-mul}
-use native.Mathlib.Decide.{ℕ-discrete}
+use native.Mathlib.Nat.{mod-lt, div-add-mod', zero-lt-suc}
 use mathlib.Core.Path.{_≡_, refl, sym, ap, ap₂, _∙_}
 use mathlib.Core.Logic.{_⊎_, inl, inr}
-use mathlib.Core.Bool.{Bool, true, false, cond}
+use mathlib.Core.Bool.{Bool, false, cond}
 use mathlib.Core.List.{List, [], _∷_, _++_}
 use mathlib.Core.List as list
-use lib.ListN.{length, getD, take, set, replicate, length-set, getD-replicate, List·getD-eq-default}
+use lib.ListN.{length, getD, take, set, replicate}
 use lib.Seq.{getD-take, getD-set-same, getD-set-other, length-take-le}
 use lib.Dec.{ltb}
 use lib.Bits.{bitOr, bitAnd}
 use borrow.Author.Tests.{lt-ltb, le-ltb, ltb-true, ltb-false}
 use Rattle.document.specs.Lists.{tabulate}
-use Rattle.document.specs.Limits.{mostEvents, mostStates, mostNames}
+use Rattle.document.specs.Limits.{mostEvents, mostStates}
 use Rattle.document.specs.Patterns.{Pattern}
 use Rattle.document.specs.Positions as positions
 use Rattle.document.specs.Positions.{holds, move, startSet, verdictOf}
 use Rattle.document.specs.States.{Found, stateOf, find, findAll, rowOf, goThrough, statesOf}
-use Rattle.words.specs.Range.{tabulate-at, tabulate-length}
+use Rattle.words.specs.Range.{tabulate-at, tabulate-past, tabulate-length, tabulate-same, tabulate-next}
 use Rattle.sets.specs.declared.Shape.{Shape}
 use Rattle.sets.specs.Shapes.{shapeOf}
 use Rattle.sets.specs.ShapesLaws.{tabulate-is}
 use Rattle.bits.specs.BitsLaws.{split-bool}
 use Rattle.states.specs.declared.Grown.{Grown}
-use Rattle.states.specs.declared.Table.{Table}
 use Rattle.states.specs.Growing.{nextsOf, moveOf, movesOf, metAll, Row, Reads, Grows, transitions, verdictFrom, verdictsFrom, tooMany, tableOf, Tabled}
-use Rattle.states.specs.RowLaws.{find-longer, met-longer}
+use Rattle.states.specs.RowLaws.{find-longer}
 
 -- The definition's moves ------------------------------------------------------------------------------------------------
 
@@ -116,24 +113,6 @@ go-longer anew p m i (suc k) g = elim (split-bool (ltb i (length (g .sets)))) [
 unfoldable pub rowsOf : ℕ → ℕ → List ℕ → List (List ℕ)
 rowsOf i m next = tabulate i (λ k. tabulate m (λ e. getD next (k * mostEvents + e) 0))
 
-tabulate-next : {A : Type 0} (n : ℕ) (f : ℕ → A) → tabulate (n + 1) f ≡ tabulate n f ++ (f n ∷ [])
-unfolding tabulate
-tabulate-next zero f = refl
-tabulate-next (suc n) f =
-    let z : suc n + 1 ≡ suc (n + 1) = omega arith in
-    rw z (ap (λ l. f 0 ∷ l) (tabulate-next n (λ k. f (suc k))))
-
-past : {A : Type 0} (n : ℕ) (f : ℕ → A) (k : ℕ) (d : A) → n ≤ k → getD (tabulate n f) k d ≡ d
-unfolding tabulate
-past zero f k d h = refl
-past (suc n) f zero d h = absurd (omega arith)
-past (suc n) f (suc k) d h = past n (λ i. f (suc i)) k d (omega arith)
-
-same-list : {A : Type 0} (n : ℕ) (f g : ℕ → A) → ((k : ℕ) → k < n → f k ≡ g k) → tabulate n f ≡ tabulate n g
-unfolding tabulate
-same-list zero f g h = refl
-same-list (suc n) f g h = ap₂ _∷_ (h 0 (omega arith)) (same-list n (λ k. f (suc k)) (λ k. g (suc k)) (λ k l. h (suc k) (omega arith)))
-
 -- so many states were gone through, and those left add what the definition's turns add; places of no row are 0
 pub record Growing (after named : List ℕ) (base m : ℕ) (sets next : List ℕ) (n i : ℕ) : Type 0 where
   pub events : m ≤ mostEvents
@@ -212,7 +191,7 @@ module _ (after named : List ℕ) (base m : ℕ) (sets next : List ℕ) (n i : �
       let s = getD (take n sets) i 0 in
       let found = findAll anew p s 0 m (take n sets) in
       let old : tabulate i (λ k. tabulate m (λ e. getD next′ (k * mostEvents + e) 0)) ≡ tabulate i (λ k. tabulate m (λ e. getD next (k * mostEvents + e) 0)) =
-      same-list i _ _ (λ k l. same-list m _ _ (λ e d. row .other (k * mostEvents + e) (λ a x (y : k * mostEvents + e ≡ i * mostEvents + a). omega arith))) in
+      tabulate-same i _ _ (λ k l. tabulate-same m _ _ (λ e d. row .other (k * mostEvents + e) (λ a x (y : k * mostEvents + e ≡ i * mostEvents + a). omega arith))) in
       let new : rowOf anew p s 0 m found ≡ tabulate m (λ e. getD next′ (i * mostEvents + e) 0) =
       tabulate-is m (λ e. getD next′ (i * mostEvents + e) 0) (rowOf anew p s 0 m found) (row-long p anew s 0 m found) (λ k d.
       row-at p anew s 0 m k found d ∙ sym (row .entry b k d ∙ ap₂ stateOf (there k d) (rw q (met-is h p anew r (getD sets i 0) refl)))) in
@@ -263,9 +242,9 @@ module _ (after named : List ℕ) (base m : ℕ) (sets next : List ℕ) (n i : �
   place-is k e h = elim (split-bool (ltb k i)) [
     | inl l ↦ rw (tabulate-at i (λ k. tabulate m (λ e. getD next (k * mostEvents + e) 0)) k [] (ltb-true k i l)) (elim (split-bool (ltb e m)) [
       | inl d ↦ sym (tabulate-at m (λ e. getD next (k * mostEvents + e) 0) e 0 (ltb-true e m d))
-      | inr d ↦ g .blank k e h (inr (ltb-false e m d)) ∙ sym (past m (λ e. getD next (k * mostEvents + e) 0) e 0 (ltb-false e m d))
+      | inr d ↦ g .blank k e h (inr (ltb-false e m d)) ∙ sym (tabulate-past m (λ e. getD next (k * mostEvents + e) 0) e 0 (ltb-false e m d))
     ])
-    | inr l ↦ rw (past i (λ k. tabulate m (λ e. getD next (k * mostEvents + e) 0)) k [] (ltb-false k i l)) (g .blank k e h (inl (ltb-false k i l)))
+    | inr l ↦ rw (tabulate-past i (λ k. tabulate m (λ e. getD next (k * mostEvents + e) 0)) k [] (ltb-false k i l)) (g .blank k e h (inl (ltb-false k i l)))
   ]
 
   pub growing-end : n ≤ i → Grows after named base m (record { count = n; sets = sets; next = next })
@@ -320,7 +299,7 @@ verdict-is shape p s q = ap (λ (x : Shape). verdictFrom (x .null) (x .last) s) 
 verdicts-are : (shape : Shape) (p : Pattern) (n : ℕ) (sets : List ℕ) → shape ≡ shapeOf p → length (take n sets) ≡ n
     → verdictsFrom (shape .null) (shape .last) n sets ≡ tabulate mostStates (λ s. getD (list.map (verdictOf p) (take n sets)) s 0)
 unfolding verdictsFrom
-verdicts-are shape p n sets q l = same-list mostStates _ _ (λ s h. elim (split-bool (ltb s n)) [
+verdicts-are shape p n sets q l = tabulate-same mostStates _ _ (λ s h. elim (split-bool (ltb s n)) [
   | inl e ↦
       let b = ltb-true s n e in
       rw e (verdict-is shape p (getD sets s 0) q ∙ sym (map-at (verdictOf p) (take n sets) s (omega arith) ∙ ap (verdictOf p) (getD-take n sets s 0 b)))
