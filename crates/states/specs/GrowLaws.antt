@@ -1,36 +1,30 @@
--- Laws of the states' growth: the lists of a shape give the definition's moves, one state more is one turn of the definition,
--- and the table at the end is the definition's.
+-- Laws of the states' growth: the lists of a pattern give the definition's moves, one state more is one turn of the
+-- definition, and all states gone through are the definition's.
 -- Assumes nothing.
 use Prim.Native.Nat.{ℕ, zero, suc, _+_, _-_, _*_, _/_, _%_, _≤_, _<_}
 use native.Mathlib.Omega.{arith}
-use native.Mathlib.Numerals.{add-one}
-use native.Mathlib.Nat.{mod-lt, div-add-mod', zero-lt-suc, div-lt-iff-lt-mul}
-use native.Mathlib.Decide.{ℕ-discrete}
+use native.Mathlib.Nat.{mod-lt, div-add-mod', zero-lt-suc}
 use mathlib.Core.Path.{_≡_, refl, sym, ap, ap₂, _∙_}
 use mathlib.Core.Logic.{_⊎_, inl, inr}
-use mathlib.Core.Bool.{Bool, true, false, cond}
+use mathlib.Core.Bool.{Bool, cond}
 use mathlib.Core.List.{List, [], _∷_, _++_}
 use mathlib.Core.List as list
-use lib.ListN.{length, getD, take, set, replicate, length-set, getD-replicate, List·getD-eq-default}
-use lib.Seq.{getD-take, getD-set-same, getD-set-other, length-take-le}
+use lib.ListN.{length, getD, take, set, replicate}
+use lib.Seq.{getD-take, length-take-le}
 use lib.Dec.{ltb}
 use lib.Bits.{bitOr, bitAnd}
 use borrow.Author.Tests.{lt-ltb, le-ltb, ltb-true, ltb-false}
 use Rattle.document.specs.Lists.{tabulate}
-use Rattle.document.specs.Limits.{mostEvents, mostStates, mostNames}
+use Rattle.document.specs.Limits.{mostEvents, mostStates}
 use Rattle.document.specs.Patterns.{Pattern}
 use Rattle.document.specs.Positions as positions
-use Rattle.document.specs.Positions.{holds, move, startSet, verdictOf}
+use Rattle.document.specs.Positions.{holds, move, startSet}
 use Rattle.document.specs.States.{Found, stateOf, find, findAll, rowOf, goThrough, statesOf}
-use Rattle.words.specs.Range.{tabulate-at, tabulate-length}
-use Rattle.sets.specs.declared.Shape.{Shape}
-use Rattle.sets.specs.Shapes.{shapeOf}
+use Rattle.words.specs.Range.{tabulate-at, tabulate-past, tabulate-same, tabulate-next}
 use Rattle.sets.specs.ShapesLaws.{tabulate-is}
 use Rattle.bits.specs.BitsLaws.{split-bool}
-use Rattle.states.specs.declared.Grown.{Grown}
-use Rattle.states.specs.declared.Table.{Table}
-use Rattle.states.specs.Growing.{nextsOf, moveOf, movesOf, metAll, Row, Reads, Grows, transitions, verdictFrom, verdictsFrom, tooMany, tableOf, Tabled}
-use Rattle.states.specs.RowLaws.{find-longer, met-longer}
+use Rattle.states.specs.Growing.{nextsOf, moveOf, movesOf, metAll, Row, Reads, Grows, transitions}
+use Rattle.states.specs.RowLaws.{find-longer}
 
 -- The definition's moves ------------------------------------------------------------------------------------------------
 
@@ -116,24 +110,6 @@ go-longer anew p m i (suc k) g = elim (split-bool (ltb i (length (g .sets)))) [
 unfoldable pub rowsOf : ℕ → ℕ → List ℕ → List (List ℕ)
 rowsOf i m next = tabulate i (λ k. tabulate m (λ e. getD next (k * mostEvents + e) 0))
 
-tabulate-next : {A : Type 0} (n : ℕ) (f : ℕ → A) → tabulate (n + 1) f ≡ tabulate n f ++ (f n ∷ [])
-unfolding tabulate
-tabulate-next zero f = refl
-tabulate-next (suc n) f =
-    let z : suc n + 1 ≡ suc (n + 1) = omega arith in
-    rw z (ap (λ l. f 0 ∷ l) (tabulate-next n (λ k. f (suc k))))
-
-past : {A : Type 0} (n : ℕ) (f : ℕ → A) (k : ℕ) (d : A) → n ≤ k → getD (tabulate n f) k d ≡ d
-unfolding tabulate
-past zero f k d h = refl
-past (suc n) f zero d h = absurd (omega arith)
-past (suc n) f (suc k) d h = past n (λ i. f (suc i)) k d (omega arith)
-
-same-list : {A : Type 0} (n : ℕ) (f g : ℕ → A) → ((k : ℕ) → k < n → f k ≡ g k) → tabulate n f ≡ tabulate n g
-unfolding tabulate
-same-list zero f g h = refl
-same-list (suc n) f g h = ap₂ _∷_ (h 0 (omega arith)) (same-list n (λ k. f (suc k)) (λ k. g (suc k)) (λ k l. h (suc k) (omega arith)))
-
 -- so many states were gone through, and those left add what the definition's turns add; places of no row are 0
 pub record Growing (after named : List ℕ) (base m : ℕ) (sets next : List ℕ) (n i : ℕ) : Type 0 where
   pub events : m ≤ mostEvents
@@ -212,7 +188,7 @@ module _ (after named : List ℕ) (base m : ℕ) (sets next : List ℕ) (n i : �
       let s = getD (take n sets) i 0 in
       let found = findAll anew p s 0 m (take n sets) in
       let old : tabulate i (λ k. tabulate m (λ e. getD next′ (k * mostEvents + e) 0)) ≡ tabulate i (λ k. tabulate m (λ e. getD next (k * mostEvents + e) 0)) =
-      same-list i _ _ (λ k l. same-list m _ _ (λ e d. row .other (k * mostEvents + e) (λ a x (y : k * mostEvents + e ≡ i * mostEvents + a). omega arith))) in
+      tabulate-same i _ _ (λ k l. tabulate-same m _ _ (λ e d. row .other (k * mostEvents + e) (λ a x (y : k * mostEvents + e ≡ i * mostEvents + a). omega arith))) in
       let new : rowOf anew p s 0 m found ≡ tabulate m (λ e. getD next′ (i * mostEvents + e) 0) =
       tabulate-is m (λ e. getD next′ (i * mostEvents + e) 0) (rowOf anew p s 0 m found) (row-long p anew s 0 m found) (λ k d.
       row-at p anew s 0 m k found d ∙ sym (row .entry b k d ∙ ap₂ stateOf (there k d) (rw q (met-is h p anew r (getD sets i 0) refl)))) in
@@ -263,9 +239,9 @@ module _ (after named : List ℕ) (base m : ℕ) (sets next : List ℕ) (n i : �
   place-is k e h = elim (split-bool (ltb k i)) [
     | inl l ↦ rw (tabulate-at i (λ k. tabulate m (λ e. getD next (k * mostEvents + e) 0)) k [] (ltb-true k i l)) (elim (split-bool (ltb e m)) [
       | inl d ↦ sym (tabulate-at m (λ e. getD next (k * mostEvents + e) 0) e 0 (ltb-true e m d))
-      | inr d ↦ g .blank k e h (inr (ltb-false e m d)) ∙ sym (past m (λ e. getD next (k * mostEvents + e) 0) e 0 (ltb-false e m d))
+      | inr d ↦ g .blank k e h (inr (ltb-false e m d)) ∙ sym (tabulate-past m (λ e. getD next (k * mostEvents + e) 0) e 0 (ltb-false e m d))
     ])
-    | inr l ↦ rw (past i (λ k. tabulate m (λ e. getD next (k * mostEvents + e) 0)) k [] (ltb-false k i l)) (g .blank k e h (inl (ltb-false k i l)))
+    | inr l ↦ rw (tabulate-past i (λ k. tabulate m (λ e. getD next (k * mostEvents + e) 0)) k [] (ltb-false k i l)) (g .blank k e h (inl (ltb-false k i l)))
   ]
 
   pub growing-end : n ≤ i → Grows after named base m (record { count = n; sets = sets; next = next })
@@ -280,71 +256,3 @@ module _ (after named : List ℕ) (base m : ℕ) (sets next : List ℕ) (n i : �
       whole = tabulate-is (mostStates * mostEvents) _ next (g .long-next) (λ k d.
           let z : k ≡ k / mostEvents * mostEvents + k % mostEvents = sym (div-add-mod' k mostEvents) in
           ap (λ (j : ℕ). getD next j 0) z ∙ place-is (k / mostEvents) (k % mostEvents) (mod-lt k (zero-lt-suc 15)))
-
--- The whole table -------------------------------------------------------------------------------------------------------
-
--- a pattern's shape has the pattern's lists
-shape-reads : (shape : Shape) (base : ℕ) (p : Pattern) (anew : Bool) → shape ≡ shapeOf p → base ≡ cond anew 1 0
-    → Reads p anew (set (shape .follow) 0 (shape .first)) (shape .named) base
-unfolding shapeOf
-shape-reads shape base p anew q b = record {
-  nexts = λ k h. go k h;
-  names = λ e h. ap (λ (x : Shape). getD (x .named) e 0) q ∙ tabulate-at mostEvents (positions.named p) e 0 h;
-  starts = b;
-}
-  where
-    long : length (shape .follow) ≡ 32
-    long = ap (λ (x : Shape). length (x .follow)) q ∙ tabulate-length 32 (positions.follows p)
-
-    go : (k : ℕ) → k < 32 → getD (set (shape .follow) 0 (shape .first)) k 0 ≡ positions.next p k
-    go zero h = getD-set-same (shape .follow) 0 (shape .first) 0 (let l = long in omega arith) ∙ ap (λ (x : Shape). x .first) q
-    go (suc k) h =
-        getD-set-other (shape .follow) 0 (suc k) (shape .first) 0 (λ (e : suc k ≡ 0). omega arith)
-        ∙ ap (λ (x : Shape). getD (x .follow) (suc k) 0) q
-        ∙ tabulate-at 32 (positions.follows p) (suc k) 0 h
-
-map-at : (f : ℕ → ℕ) (l : List ℕ) (k : ℕ) → k < length l → getD (list.map f l) k 0 ≡ f (getD l k 0)
-map-at f [] k h = absurd (omega arith)
-map-at f (x ∷ l) zero h = refl
-map-at f (x ∷ l) (suc k) h = map-at f l k (omega arith)
-
-map-past : (f : ℕ → ℕ) (l : List ℕ) (k : ℕ) → length l ≤ k → getD (list.map f l) k 0 ≡ 0
-map-past f [] k h = refl
-map-past f (x ∷ l) zero h = absurd (omega arith)
-map-past f (x ∷ l) (suc k) h = map-past f l k (omega arith)
-
-verdict-is : (shape : Shape) (p : Pattern) (s : ℕ) → shape ≡ shapeOf p → verdictFrom (shape .null) (shape .last) s ≡ verdictOf p s
-unfolding shapeOf verdictFrom verdictOf
-verdict-is shape p s q = ap (λ (x : Shape). verdictFrom (x .null) (x .last) s) q
-
-verdicts-are : (shape : Shape) (p : Pattern) (n : ℕ) (sets : List ℕ) → shape ≡ shapeOf p → length (take n sets) ≡ n
-    → verdictsFrom (shape .null) (shape .last) n sets ≡ tabulate mostStates (λ s. getD (list.map (verdictOf p) (take n sets)) s 0)
-unfolding verdictsFrom
-verdicts-are shape p n sets q l = same-list mostStates _ _ (λ s h. elim (split-bool (ltb s n)) [
-  | inl e ↦
-      let b = ltb-true s n e in
-      rw e (verdict-is shape p (getD sets s 0) q ∙ sym (map-at (verdictOf p) (take n sets) s (omega arith) ∙ ap (verdictOf p) (getD-take n sets s 0 b)))
-  | inr e ↦ let b = ltb-false s n e in rw e (sym (map-past (verdictOf p) (take n sets) s (omega arith)))
-])
-
-pub tabled-over : (shape : Shape) (m base : ℕ) (g : Grown) → Grows (set (shape .follow) 0 (shape .first)) (shape .named) base m g
-    → mostStates < g .count → Tabled shape m base tooMany
-unfolding tableOf
-tabled-over shape m base g w h = record {
-  says = λ p anew q b.
-      rw (lt-ltb mostStates (length (statesOf anew p m .sets)) (w .over h p anew (shape-reads shape base p anew q b)));
-}
-
-pub tabled-all : (shape : Shape) (m base : ℕ) (g : Grown) (verdicts : List ℕ) → Grows (set (shape .follow) 0 (shape .first)) (shape .named) base m g
-    → g .count ≤ mostStates → verdicts ≡ verdictsFrom (shape .null) (shape .last) (g .count) (g .sets)
-    → Tabled shape m base (record { over = false; states = g .count; next = g .next; verdicts = verdicts })
-unfolding tableOf
-tabled-all shape m base g verdicts w h v = record {
-  says = λ p anew q b.
-      let r = shape-reads shape base p anew q b in
-      let s = w .sets h p anew r in
-      let long = w .long in
-      let c : length (take (g .count) (g .sets)) ≡ g .count = length-take-le (g .count) (g .sets) (omega arith) in
-      let d : length (statesOf anew p m .sets) ≡ g .count = sym (ap length s) ∙ c in
-      rw (le-ltb mostStates (length (statesOf anew p m .sets)) (omega arith), ← w .next h p anew r, d, ← s, v ∙ verdicts-are shape p (g .count) (g .sets) q c);
-}

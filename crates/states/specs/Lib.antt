@@ -2,3 +2,4 @@ pub mod Growing
 pub mod StepLaws
 pub mod RowLaws
 pub mod GrowLaws
+pub mod TableLaws

@@ -1,18 +1,17 @@
 -- Laws of the loops that lead from a set to the sets that follow it, to its number, and to its verdict.
 -- Assumes nothing.
-use Prim.Native.Nat.{ℕ, zero, suc, _+_, _-_, _≤_, _<_}
+use Prim.Native.Nat.{ℕ, suc, _+_, _-_, _≤_, _<_}
 use native.Mathlib.Omega.{arith}
 use native.Mathlib.Numerals.{add-one}
 use native.Mathlib.Decide.{ℕ-discrete}
 use mathlib.Core.Path.{_≡_, refl, sym, ap, _∙_}
-use mathlib.Core.Bool.{Bool, true, false, cond, not, _&&_, _||_, or-true}
-use mathlib.Core.List.{List, [], _∷_}
-use lib.ListN.{length, getD, take, drop, set, replicate, length-set, length-drop, drop-of-length-le, getD-replicate}
+use mathlib.Core.Bool.{Bool, true, false, cond, _&&_, or-true}
+use mathlib.Core.List.{List}
+use lib.ListN.{length, getD, take, drop, set, replicate, length-set, drop-of-length-le, getD-replicate}
 use lib.Seq.{drop-cons, getD-take, getD-set-same, getD-set-other, length-take-le}
-use lib.Dec.{eqb, ltb}
+use lib.Dec.{ltb}
 use lib.Bits.{bitOr, bitAnd}
 use borrow.Author.Tests.{eq-eqb, ne-eqb, lt-ltb, le-ltb, ltb-true, ltb-false}
-use Rattle.document.specs.Lists.{tabulate}
 use Rattle.document.specs.Limits.{mostStates}
 use Rattle.document.specs.Positions.{holds}
 use Rattle.document.specs.States.{stateOf}

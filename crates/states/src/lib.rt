@@ -4,7 +4,7 @@
 //     table_of(shape, events, TOTAL) is the table over so many events, or says that there are more than 64 states.
 ghost use mathlib.Core.Path.{_≡_};
 ghost use mathlib.Core.Bool.{cond};
-ghost use Prim.Native.Nat.{ℕ, _+_, _*_, _≤_, _<_};
+ghost use Prim.Native.Nat.{_+_, _*_, _≤_, _<_};
 ghost use lib.ListN.{length, take};
 ghost use lib.Dec.{ltb};
 ghost use Rattle.document.specs.Limits.{mostEvents, mostStates};

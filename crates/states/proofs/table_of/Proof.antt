@@ -1,6 +1,6 @@
 -- `states::table_of` meets its contract: the lists of the shape, with the first numbers after the start, give the table of the pattern that has it.
 -- Assumes nothing.
-use Rattle.states.specs.GrowLaws.{tabled-over, tabled-all}
+use Rattle.states.specs.TableLaws.{tabled-over, tabled-all}
 use Prim.Native.Nat.{_-_}
 use borrow.Author.Needs.{needs}
 use Rattle.states.proofs.table_of.Statement.{statement}
