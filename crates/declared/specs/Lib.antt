@@ -1,0 +1,5 @@
+pub mod Readings
+pub mod NamesLaws
+pub mod FieldsLaws
+pub mod PlacesLaws
+pub mod RefusalLaws
