@@ -1,0 +1,156 @@
+-- The customer's demand 3 of the definitions: from a fresh start, and at every event, refused ones counting for nothing.
+-- Assumes nothing.
+use Prim.Native.Nat.{ℕ, zero-le, _≤_}
+use mathlib.Core.Path.{_≡_, refl, sym, _∙_}
+use mathlib.Core.Logic.{inl, inr, _↔_}
+use mathlib.Core.Bool.{Bool, true, false, not}
+use mathlib.Core.List.{List, [], _++_}
+use mathlib.Core.List as list
+use native.Mathlib.Omega.{arith}
+use borrow.Author.Tests.{ltb-false, leb-false, not-false}
+use lib.Dec.{leb, ltb}
+use lib.ListN.{length, drop}
+use Rattle.document.specs.Lists.{joinedUp}
+use Rattle.document.specs.Limits.{width}
+use Rattle.document.specs.Refusals.{Refusal, badProperty, badSession, noSuchEvent, wrongValues, noRoomForSeen, noRoomForKept, noRoomForReports, Answer, taken, refuseIf}
+use Rattle.document.specs.Combinations.{emptyOf, bindsExactly}
+use Rattle.document.specs.Histories.{Event, slice}
+use Rattle.document.specs.OneEvent.{Kept, joinSeen}
+use Rattle.document.specs.Property.{Property, inRange, setOf, stateFrom, stateAfter, hopeful}
+use Rattle.document.specs.Tables.{seenRoom, keptRoom, reportRoom}
+use Rattle.document.specs.Session.{Session, Happened, ascending, sessionWith, sound, firstKept, lentTables, start, reportNumbers, keeps, stepFrom, event}
+use Rattle.document.specs.Demands.{Lists, itself, SeenIn, KeptIn, Proper, Holds, extended, Demand3}
+use Rattle.slices.specs.TestsLaws.{so, not-so, either}
+use Rattle.slices.specs.HistoriesLaws.{is-binding, joinOf-made, length-made, made-joinOf}
+use Rattle.slices.specs.OneEventLaws.{Follows}
+use Rattle.slices.specs.SessionLaws.{Fits, seenRoom-with, keptRoom-with, with-again}
+use Rattle.slices.specs.HoldsLaws.{ProperHistory, history-width, kept-follows}
+use Rattle.slices.specs.EventLaws.{history-more, event-answers}
+use Rattle.slices.specs.LookupLaws.{looks-up}
+
+-- an answer that is taken has passed the first test
+passed : {A : Type 0} (t : Bool) (r : Refusal) (a : Answer A) (x : A) → refuseIf t r a ≡ taken x → (t ≡ false) × (a ≡ taken x)
+passed true r a x e = let z : _≡_ {A = ℕ} 0 1 = cc in absurd (omega arith)
+passed false r a x e = (refl, e)
+
+taken-same : {A : Type 0} (x y : A) → taken x ≡ taken y → x ≡ y
+taken-same x y e = cc
+
+-- rows that the history calls for, put into tables with room for them, stand for the history
+holds-with : (p : Property) → inRange p ≡ true → (H : List Event) (s : Session) (seen : List (List ℕ)) (kept : List Kept)
+    → ProperHistory p H → Lists itself (SeenIn H) seen → Lists (λ k. k .combination) (KeptIn p H) kept
+    → length seen ≤ seenRoom (s .seen) → length kept ≤ keptRoom (s .kept) → Holds p H (sessionWith s seen kept)
+holds-with p r H s seen kept f ls lk hs hk =
+    let o = history-width p r H f in
+    let fits : Fits s seen kept = record {
+      seenWidth = λ b i. o b (is-binding H b .1 (ls .exactly b .0 i .binding));
+      keptWidth = λ k i. length-made width H o (k .combination) (lk .exactly k .0 i .made);
+      seenRows = hs;
+      keptRows = hk;
+    } in
+    record {
+      history = f;
+      seen = seen;
+      kept = kept;
+      seenLists = ls;
+      keptLists = lk;
+      seenRows = rw (seenRoom-with s seen kept fits) hs;
+      keptRows = rw (keptRoom-with s seen kept fits) hk;
+      tables = sym (with-again s seen kept fits seen kept);
+    }
+
+-- Start ----------------------------------------------------------------------------------------------------------------
+
+none : (p : Property) → ProperHistory p []
+none p h i = absurd i
+
+first-seen : Lists itself (SeenIn []) []
+unfolding ascending
+first-seen = record { order = refl; exactly = λ x. ((λ i. absurd i), (λ m. absurd (m .binding .accepted))) }
+
+-- only the empty combination is made of no events, in state 0
+first-follows : (p : Property) (k : Kept) → Follows width (stateAfter p) [] k ↔ (k ≡ record { combination = emptyOf width; state = 0 })
+unfolding slice stateAfter stateFrom joinSeen
+first-follows p k = (
+  (λ f.
+      let c : k .combination ≡ emptyOf width = sym (made-joinOf width [] (λ b i. absurd i) (k .combination) (f .made)) in
+      λ i. record { combination = c i; state = f .state i }),
+  (λ q. rw q (record { made = joinOf-made width (emptyOf width) [] refl; state = refl })),
+)
+
+first-kept : (p : Property) → inRange p ≡ true → Lists (λ k. k .combination) (KeptIn p []) (firstKept p)
+unfolding firstKept ascending keeps
+first-kept p r =
+    elim (either (hopeful p 0)) [
+      | inl e ↦ rw e (record {
+        order = refl;
+        exactly = λ k. (
+          (λ i. elim i [ inl q ↦ kept-follows p r [] (none p) k .1 (first-follows p k .1 q, rw q (so e)) | inr z ↦ absurd z ]),
+          (λ m. inl (first-follows p k .0 (kept-follows p r [] (none p) k .0 m .0))),
+        );
+      })
+      | inr e ↦ rw e (record {
+        order = refl;
+        exactly = λ k. (
+          (λ i. absurd i),
+          (λ m. let f = kept-follows p r [] (none p) k .0 m in not-so e (rw (first-follows p k .0 (f .0)) at (f .1))),
+        );
+      })
+    ]
+
+starts : (p : Property) (seen kept : List ℕ) (s : Session) → start p seen kept ≡ taken s → Holds p [] s
+unfolding start lentTables
+starts p seen kept s e =
+    let lent = lentTables seen kept in
+    let full = ltb (keptRoom kept) (length (firstKept p)) in
+    let a = passed (not (inRange p)) badProperty (refuseIf full noRoomForKept (taken (sessionWith lent [] (firstKept p)))) s e in
+    let b = passed full noRoomForKept (taken (sessionWith lent [] (firstKept p))) s (a .1) in
+    let r : inRange p ≡ true = not-false (inRange p) (a .0) in
+    rw (← taken-same (sessionWith lent [] (firstKept p)) s (b .1))
+    (holds-with p r [] lent [] (firstKept p) (none p) first-seen (first-kept p r) zero-le (ltb-false (keptRoom kept) (length (firstKept p)) (b .0)))
+
+-- An event that is taken -----------------------------------------------------------------------------------------------
+
+-- an event that is taken is one of the property's, with values for exactly its set
+taken-proper : (p : Property) (s : Session) (reports : List ℕ) (e : ℕ) (b : List ℕ) (h : Happened) → length b ≡ width
+    → event p s reports e b ≡ taken h → Proper p e b
+unfolding event
+taken-proper p s reports e b h o q =
+    let bad = not (bindsExactly (setOf p e) b) in
+    let from-values = refuseIf bad wrongValues (stepFrom 0 p s reports e b) in
+    let from-event = refuseIf (leb (p .events) e) noSuchEvent from-values in
+    let h₁ = passed (not (inRange p)) badProperty (refuseIf (not (sound p s)) badSession from-event) h q in
+    let h₂ = passed (not (sound p s)) badSession from-event h (h₁ .1) in
+    let h₃ = passed (leb (p .events) e) noSuchEvent from-values h (h₂ .1) in
+    let h₄ = passed bad wrongValues (stepFrom 0 p s reports e b) h (h₃ .1) in
+    record { declared = leb-false (p .events) e (h₃ .0); width = o; values = not-false (bindsExactly (setOf p e) b) (h₄ .0) }
+
+goes-on : (p : Property) (H : List Event) (s : Session) → inRange p ≡ true → Holds p H s
+    → (reports : List ℕ) (n e : ℕ) (b : List ℕ) (h : Happened) → length b ≡ width → event p s reports e b ≡ taken h
+    → Holds p (extended p H n e b) (h .session)
+goes-on p H s r st reports n e b h o q =
+    let proper = taken-proper p s reports e b h o q in
+    let a = event-answers p H s r st n e b proper reports in
+    let numbers = joinedUp (list.map (reportNumbers p) (a .rows)) in
+    let left : Happened = record {
+      session = sessionWith s (a .seen) (a .kept);
+      reports = numbers ++ drop (length numbers) reports;
+      reported = length (a .rows);
+    } in
+    let fullSeen = ltb (seenRoom (s .seen)) (length (a .seen)) in
+    let fullKept = ltb (keptRoom (s .kept)) (length (a .kept)) in
+    let fullReports = ltb (reportRoom reports) (length (a .rows)) in
+    let h₁ = passed fullSeen noRoomForSeen (refuseIf fullKept noRoomForKept (refuseIf fullReports noRoomForReports (taken left))) h (sym (a .answer) ∙ q) in
+    let h₂ = passed fullKept noRoomForKept (refuseIf fullReports noRoomForReports (taken left)) h (h₁ .1) in
+    let h₃ = passed fullReports noRoomForReports (taken left) h (h₂ .1) in
+    rw (← taken-same left h (h₃ .1)) (
+    holds-with p r (extended p H n e b) s (a .seen) (a .kept) (history-more p H n e b (st .history) proper) (a .seenLists) (a .keptLists)
+    (ltb-false (seenRoom (s .seen)) (length (a .seen)) (h₁ .0)) (ltb-false (keptRoom (s .kept)) (length (a .kept)) (h₂ .0)))
+
+pub demand-3 : Demand3
+demand-3 = record {
+  starts = starts;
+  answers = λ p H s r h reports n e b q. event-answers p H s r h n e b q reports;
+  goesOn = goes-on;
+  looksUp = looks-up;
+}

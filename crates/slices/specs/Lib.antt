@@ -1,0 +1,17 @@
+pub mod TestsLaws
+pub mod ListsLaws
+pub mod CombinationsLaws
+pub mod OrderLaws
+pub mod JoinSeenLaws
+pub mod HistoriesLaws
+pub mod SeenLaws
+pub mod OneEventLaws
+pub mod PropertyLaws
+pub mod HopefulLaws
+pub mod TablesLaws
+pub mod SessionLaws
+pub mod HoldsLaws
+pub mod SoundLaws
+pub mod LookupLaws
+pub mod EventLaws
+pub mod Demand3
