@@ -25,7 +25,7 @@ use Rattle.document.specs.Translate.{propertyOf, translate}
 use Rattle.document.specs.Combinations.{includes, compatible, join, precedes, bindsFrom, bindsExactly, zeroPast}
 use Rattle.document.specs.OneEvent.{Kept, joinSeen, insertKept, inOrder, insertSeen, see, moves, movedFrom, moved, keptAfter, reportsAfter}
 use Rattle.document.specs.Tables.{numbersAt, seenRoom, keptRoom, reportRoom, seenRows, keptRows, keptNumbers, filled, seenTable, keptTable}
-use Rattle.document.specs.Session.{seenOf, keptOf, sessionWith, ascending, zeroBetween, keptCombinations, rightlyKept, sound, firstKept, lentTables, start, reportNumbers, keeps, reported, stepFrom}
+use Rattle.document.specs.Session.{seenOf, keptOf, sessionWith, ascending, zeroBetween, keptCombinations, rightlyKept, sound, firstKept, lentTables, start, reportNumbers, keeps, reported, outcome, written, withinRooms, stepFrom}
 use Rattle.document.specs.Log.{isBadValue, valuesOf, rowEvent, stepRow, agrees, judged, rowAt, nextAt, ranTo, runFrom, run}
 use Rattle.document.specs.Printing.{digits, decimal, wordOf, refusedText, withCommas, valueText, line, reportLine, reportLines, refusedLine, rowLines, printed, programSession, output}
 use Rattle.document.specs.Example.{eventsFile, patternFile, logFile, outputFile, oneEventFile, tableOf, afterRows}
@@ -51,7 +51,7 @@ pub record WorkedCases : Type 0 where
   pub p4 : row (tableOf eventsFile patternFile) 3 ≡ 2 ∷ 3 ∷ 4 ∷ []
   pub p5-verdicts : tabulate 5 (verdict (tableOf eventsFile patternFile)) ≡ 0 ∷ 0 ∷ fail ∷ 0 ∷ match ∷ []
   pub p5-hopeful : tabulate 5 (hopeful (tableOf eventsFile patternFile)) ≡ true ∷ true ∷ false ∷ true ∷ false ∷ []
-  -- P6: "row 4 reports nothing and keeps nothing new"
+  -- P6: "row 4 reports nothing and keeps nothing new"; `afterRows n` is the run over the first n rows, with the reports so far
   pub p6-reports : afterRows 4 .happened .reported ≡ 0
   pub p6-kept-before : keptOf (afterRows 3 .happened .session) ≡ keptRow 0 0 0 ∷ keptRow 0 7 1 ∷ keptRow 1 7 3 ∷ []
   pub p6-kept-after : keptOf (afterRows 4 .happened .session) ≡ keptRow 0 0 0 ∷ keptRow 0 7 1 ∷ keptRow 1 7 3 ∷ []
@@ -61,7 +61,7 @@ pub record WorkedCases : Type 0 where
   -- P8: "row 6 reports nothing"
   pub p8 : afterRows 6 .happened .reported ≡ 1
   -- "Afterwards seen holds .. ; kept holds .."; all six rows are taken
-  pub rows-taken : afterRows 6 .taken ≡ 6
+  pub rows-taken : afterRows 4 .taken ∷ afterRows 5 .taken ∷ afterRows 6 .taken ∷ [] ≡ 4 ∷ 5 ∷ 6 ∷ []
   pub seen-afterwards : seenOf (afterRows 6 .happened .session) ≡ seenRow 0 7 ∷ seenRow 1 0 ∷ seenRow 1 7 ∷ seenRow 2 0 ∷ seenRow 2 7 ∷ []
   pub kept-afterwards : keptOf (afterRows 6 .happened .session) ≡ keptRow 0 0 0 ∷ keptRow 0 7 1 ∷ []
   -- the whole output
@@ -88,7 +88,7 @@ many-one P w x = subst (Many P) (append-nil w) (more x none)
 
 -- the definitions that the cases compute through, named once
 computing : Unit {0}
-unfolding keepIf every some everyBelow someBelow tabulate equal among placeOf repeated startsWith takeWhile joinedUp classOf isLetter isDigit isBlank isNameByte endsRow firstRow afterRow rowsWithin rows stray partsFrom parts partOf fields decimalFrom valueOf isName isMark setFrom headerRow eventRow eventRows noEvents declarations header nameRun askToken tokenAt lexemesFrom lexemes offsetOf marked markedReading closed readName moreAlternatives moreRepetitions atomOf readAtomIn readAlternative readWhole secondAsk readAsks parse nullable firsts lasts follows named nexts move verdictOf stateOf find findAll rowOf goThrough statesOf setOf nextState stateFrom stateAfter verdict inRange asksFor isAsked leadsIn leadsAfter leads hopeful propertyOf translate includes compatible join precedes bindsFrom bindsExactly zeroPast joinSeen insertKept inOrder insertSeen see moves movedFrom moved keptAfter reportsAfter numbersAt seenRoom keptRoom reportRoom seenRows keptRows keptNumbers filled seenTable keptTable seenOf keptOf sessionWith ascending zeroBetween keptCombinations rightlyKept sound firstKept lentTables start reportNumbers keeps reported stepFrom isBadValue valuesOf rowEvent stepRow agrees judged rowAt nextAt ranTo runFrom run digits decimal wordOf refusedText withCommas valueText line reportLine reportLines refusedLine rowLines printed programSession output tableOf afterRows
+unfolding keepIf every some everyBelow someBelow tabulate equal among placeOf repeated startsWith takeWhile joinedUp classOf isLetter isDigit isBlank isNameByte endsRow firstRow afterRow rowsWithin rows stray partsFrom parts partOf fields decimalFrom valueOf isName isMark setFrom headerRow eventRow eventRows noEvents declarations header nameRun askToken tokenAt lexemesFrom lexemes offsetOf marked markedReading closed readName moreAlternatives moreRepetitions atomOf readAtomIn readAlternative readWhole secondAsk readAsks parse nullable firsts lasts follows named nexts move verdictOf stateOf find findAll rowOf goThrough statesOf setOf nextState stateFrom stateAfter verdict inRange asksFor isAsked leadsIn leadsAfter leads hopeful propertyOf translate includes compatible join precedes bindsFrom bindsExactly zeroPast joinSeen insertKept inOrder insertSeen see moves movedFrom moved keptAfter reportsAfter numbersAt seenRoom keptRoom reportRoom seenRows keptRows keptNumbers filled seenTable keptTable seenOf keptOf sessionWith ascending zeroBetween keptCombinations rightlyKept sound firstKept lentTables start reportNumbers keeps reported outcome written withinRooms stepFrom isBadValue valuesOf rowEvent stepRow agrees judged rowAt nextAt ranTo runFrom run digits decimal wordOf refusedText withCommas valueText line reportLine reportLines refusedLine rowLines printed programSession output tableOf afterRows
 computing = tt
 
 pub worked-cases : WorkedCases

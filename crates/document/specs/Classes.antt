@@ -1,5 +1,5 @@
 -- Document 01, "The declarations": the class of a byte, by ranges, and the bytes that the document names.
--- A class is a number, so that a table of 256 numbers can hold them.
+-- A class is a number, so that a table of 256 numbers can hold them; the marks' numbers stand together.
 -- Assumes nothing.
 use Prim.Native.Nat.{ℕ}
 use mathlib.Core.Bool.{Bool, cond, _&&_, _||_}

@@ -10,21 +10,23 @@ use mathlib.Core.List.{List, [], _∷_, _++_}
 use mathlib.Core.List as list
 use lib.ListN.{length, take, drop}
 use lib.Dec.{T, leb, ltb}
-use Rattle.document.specs.Lists.{In, joinedUp}
-use Rattle.document.specs.Limits.{width, textBytes, mostStates}
-use Rattle.document.specs.Refusals.{Refusal, textTooLong, tooManyStates, noRoomForSeen, noRoomForKept, noRoomForReports, Answer, taken, refused, refuseIf}
+use Rattle.document.specs.Lists.{In, Decides}
+use Rattle.document.specs.Limits.{width, textBytes, mostNames, mostStates}
+use Rattle.document.specs.Refusals.{Refusal, textTooLong, tooManyStates, noRoomForKept, Answer, taken, refused, refuseIf}
 use Rattle.document.specs.Declarations.{Declared, declarations}
 use Rattle.document.specs.Patterns.{Pattern, TotalMatching, Among}
 use Rattle.document.specs.Tokens.{Token, Lexeme, lexemes, offsetOf}
-use Rattle.document.specs.Grammar.{Whole, Fault, FirstFault}
+use Rattle.document.specs.Grammar.{alternatives, Reads, Whole, Fault, FirstFault}
+use Rattle.document.specs.Positions.{holds, setAfter, StopsAt}
 use Rattle.document.specs.States.{MoreStates}
-use Rattle.document.specs.Property.{Property, inRange, stateAfter, verdict, isAsked, setOf, everyEvent, Leads}
+use Rattle.document.specs.Property.{Property, inRange, stateAfter, verdict, isAsked, setOf, everyEvent, Leads, hopeful}
 use Rattle.document.specs.Translate.{anew, translate}
 use Rattle.document.specs.Combinations.{emptyOf, includes, bindsExactly, zeroPast}
 use Rattle.document.specs.Histories.{Event, slice, IsBinding, Made}
 use Rattle.document.specs.OneEvent.{Kept}
-use Rattle.document.specs.Tables.{seenRoom, keptRoom, reportRoom}
-use Rattle.document.specs.Session.{Session, Happened, ascending, sessionWith, reportNumbers, start, event, Found, held, hopeless, lookup}
+use Rattle.document.specs.Tables.{seenRoom, keptRoom}
+use Rattle.document.specs.Session.{Session, Happened, Outcome, ascending, sessionWith, lentTables, start, event, leaves, withinRooms, stepFrom, Found, held, hopeless, lookup}
+use Rattle.document.specs.Log.{run, rowsBetween}
 
 -- Demand 2 -------------------------------------------------------------------------------------------------------------
 
@@ -54,7 +56,7 @@ pub record Means {events text : List ℕ} (a : Allowed events text) (p : Propert
 
 -- the refusals of the two texts, in the document's order
 pub data RefusedFor (events text : List ℕ) : Refusal → ℕ → Type 0 where
-  declarationsRefused : {r : Refusal} {at : ℕ} → declarations events ≡ refused r at → RefusedFor events text r at
+  declarationsRefused : {r : Refusal} → declarations events ≡ refused r 0 → RefusedFor events text r 0
   patternTooLong : {d : Declared} → declarations events ≡ taken d → textBytes < length text → RefusedFor events text textTooLong 0
   faulty : {d : Declared} {i : ℕ} {r : Refusal} → declarations events ≡ taken d → length text ≤ textBytes
       → FirstFault (d .events) (tokensOf text) i r → RefusedFor events text r (offsetOf text (drop i (lexemes text)))
@@ -65,9 +67,14 @@ pub data RefusedFor (events text : List ℕ) : Refusal → ℕ → Type 0 where
 pub record Demand2 : Type 0 where
   -- "taken exactly when document 01's grammar and limits allow it"
   pub takes : (events text : List ℕ) → Allowed events text → (p : Property) × (translate events text ≡ taken p)
-  pub means : (events text : List ℕ) (p : Property) → translate events text ≡ taken p → (a : Allowed events text) × Means a p
-  -- and else refused as the document says
+  pub allows : (events text : List ℕ) (p : Property) → translate events text ≡ taken p → Allowed events text
+  -- and then the table says what the text means
+  pub means : (events text : List ℕ) (p : Property) → translate events text ≡ taken p → (a : Allowed events text) → Means a p
+  -- and else it is refused as the document says
   pub refuses : (events text : List ℕ) (r : Refusal) (at : ℕ) → translate events text ≡ refused r at → RefusedFor events text r at
+  -- the sets by which states are told apart, and counted, hold "the numbers at which a reading of that sequence can have stopped"
+  pub sets : (declared : List (List ℕ)) (n : ℕ) (ts : List Token) (r : Pattern) → Reads declared alternatives 0 n ts r → n ≤ mostNames
+      → (w : List ℕ) (k : ℕ) → (holds (setAfter anew r w) k ≡ true) ↔ StopsAt r k w
 
 -- Demand 3 -------------------------------------------------------------------------------------------------------------
 
@@ -121,24 +128,11 @@ module _ (p : Property) where
   abbrev pub extended : List Event → ℕ → ℕ → List ℕ → List Event
   extended H n e b = H ++ (record { row = n; event = e; binding = b } ∷ [])
 
-  -- what the event answers, by the definitions over the whole history: "refused for room exactly when the distinct non-empty
-  -- bindings, kept combinations or reports after it would exceed their room"
-  pub record Answers (H : List Event) (s : Session) (reports : List ℕ) (e : ℕ) (b : List ℕ) (a : Answer Happened) : Type 0 where
-    pub seen : List (List ℕ)
-    pub kept : List Kept
-    pub rows : List Kept
-    pub seenLists : Lists itself (SeenIn H) seen
-    pub keptLists : Lists (λ k. k .combination) (KeptIn H) kept
-    pub reportLists : Lists (λ k. k .combination) (ReportedIn H b) rows
-    pub answer :
-        a ≡ refuseIf (ltb (seenRoom (s .seen)) (length seen)) noRoomForSeen
-        (refuseIf (ltb (keptRoom (s .kept)) (length kept)) noRoomForKept
-        (refuseIf (ltb (reportRoom reports) (length rows)) noRoomForReports
-        (taken (record {
-          session = sessionWith s seen kept;
-          reports = joinedUp (list.map (reportNumbers p) rows) ++ drop (length (joinedUp (list.map (reportNumbers p) rows))) reports;
-          reported = length rows;
-        }))))
+  -- what an event comes to, by the definitions over the whole history, this event its last
+  pub record ComesTo (H : List Event) (b : List ℕ) (o : Outcome) : Type 0 where
+    pub seen : Lists itself (SeenIn H) (o .seen)
+    pub kept : Lists (λ k. k .combination) (KeptIn H) (o .kept)
+    pub rows : Lists (λ k. k .combination) (ReportedIn H b) (o .rows)
 
   -- what lookup answers: "the slice's state exactly when it is hopeful"
   pub data LooksUp (H : List Event) (c : List ℕ) : Answer Found → Type 0 where
@@ -146,15 +140,43 @@ module _ (p : Property) where
         → LooksUp H c (taken (held (stateAfter p (slice c H)) (verdict p (stateAfter p (slice c H)))))
     isHopeless : (Leads p (isAsked p) everyEvent (stateAfter p (slice c H)) → ⊥) → LooksUp H c (taken hopeless)
 
--- From a fresh start and at every event, refused ones counting for nothing. `Holds` is what start establishes and each
--- accepted event carries on; so a session that is loaded may enter it too.
+-- "From a fresh start, with one accepted property and the same tables and room throughout, refused events counting for
+-- nothing": the session s is reached from the lent tables, and H are the events that it accepted
+pub data Reached (p : Property) (seen kept : List ℕ) : List Event → Session → Type 0 where
+  fresh : {s : Session} → start p seen kept ≡ taken s → Reached p seen kept [] s
+  accepted : {H : List Event} {s : Session} {h : Happened} (reports : List ℕ) (n e : ℕ) (b : List ℕ) → Reached p seen kept H s
+      → length b ≡ width → event p s reports e b ≡ taken h → Reached p seen kept (extended p H n e b) (h .session)
+  refusedEvent : {H : List Event} {s : Session} {r : Refusal} {at : ℕ} (reports : List ℕ) (e : ℕ) (b : List ℕ) → Reached p seen kept H s
+      → event p s reports e b ≡ refused r at → Reached p seen kept H (leaves s reports (event p s reports e b) .session)
+
 pub record Demand3 : Type 0 where
-  pub starts : (p : Property) (seen kept : List ℕ) (s : Session) → start p seen kept ≡ taken s → Holds p [] s
+  -- start is refused 16 exactly when what is kept at the start exceeds its room
+  pub starts : (p : Property) (seen kept : List ℕ) → inRange p ≡ true
+      → (first : List Kept) × Lists (λ k. k .combination) (KeptIn p []) first
+      × (start p seen kept ≡ refuseIf (ltb (keptRoom kept) (length first)) noRoomForKept (taken (sessionWith (lentTables seen kept) [] first)))
+  -- every session that is reached holds its history, in the same room
+  pub holds : (p : Property) (seen kept : List ℕ) (H : List Event) (s : Session) → Reached p seen kept H s
+      → Holds p H s × (length (s .seen) ≡ length seen) × (length (s .kept) ≡ length kept)
+  -- `Holds` is all that the answers rest on, so a session that comes to hold a history in another way may enter here.
+  -- An event comes to what the definitions say, and "is refused for room exactly when the distinct non-empty bindings, kept
+  -- combinations or reports after it would exceed their room" (`withinRooms`), wherever its reports begin
   pub answers : (p : Property) (H : List Event) (s : Session) → inRange p ≡ true → Holds p H s
-      → (reports : List ℕ) (n e : ℕ) (b : List ℕ) → Proper p e b
-      → Answers p (extended p H n e b) s reports e b (event p s reports e b)
+      → (from : ℕ) (reports : List ℕ) (n e : ℕ) (b : List ℕ) → Proper p e b
+      → (o : Outcome) × ComesTo p (extended p H n e b) b o × (stepFrom from p s reports e b ≡ withinRooms from p s reports o)
+  pub events : (p : Property) (H : List Event) (s : Session) → inRange p ≡ true → Holds p H s
+      → (reports : List ℕ) (e : ℕ) (b : List ℕ) → Proper p e b → event p s reports e b ≡ stepFrom 0 p s reports e b
+  -- the history that an accepted event leads to is held again
   pub goesOn : (p : Property) (H : List Event) (s : Session) → inRange p ≡ true → Holds p H s
-      → (reports : List ℕ) (n e : ℕ) (b : List ℕ) (h : Happened) → length b ≡ width → event p s reports e b ≡ taken h
+      → (from : ℕ) (reports : List ℕ) (n e : ℕ) (b : List ℕ) (h : Happened) → Proper p e b → stepFrom from p s reports e b ≡ taken h
       → Holds p (extended p H n e b) (h .session)
   pub looksUp : (p : Property) (H : List Event) (s : Session) → inRange p ≡ true → Holds p H s
       → (c : List ℕ) → length c ≡ width → zeroPast (p .parameters) c ≡ true → LooksUp p H c (lookup p s c)
+  -- hopeful, worked out, is hopeful as it is meant, for every state of every table in range
+  pub hopefuls : (p : Property) (s : ℕ) → inRange p ≡ true → s < p .states → Decides (hopeful p s) (Leads p (isAsked p) everyEvent s)
+
+-- Rows and runs --------------------------------------------------------------------------------------------------------
+
+-- "row limit in, rows taken out; equals the count of rows in the definition between the two offsets", for every answer
+pub record Runs : Type 0 where
+  pub counts : (text : List ℕ) (p : Property) (s : Session) (reports log : List ℕ) (at budget : ℕ)
+      → run text p s reports log at budget .taken ≡ rowsBetween log at (run text p s reports log at budget .next)

@@ -18,6 +18,13 @@ use Rattle.document.specs.Tokens.{Token, word, mark, ask, noToken, isMar
 pub data Kind : Type 0 where
   alternatives sequences repetitions atoms : Kind
 
+-- "`@match`, `@fail` or both, each once, in either order", and the set of verdicts asked for: 1 match, 2 fail, 3 both
+pub data Asks : List Token → ℕ → Type 0 where
+  just-match : Asks (ask match ∷ []) 1
+  just-fail : Asks (ask fail ∷ []) 2
+  match-fail : Asks (ask match ∷ ask fail ∷ []) 3
+  fail-match : Asks (ask fail ∷ ask match ∷ []) 3
+
 -- The grammar, a line for each of its phrases. ts is a phrase of the kind and r what it means; before it stand lo event
 -- names, and hi with it, so that names are numbered from the left. `declared` are the names of the declared events; a name
 -- that is not among them gets the number after the last.
@@ -38,13 +45,6 @@ module _ (declared : List (List ℕ)) where
     empty : {lo : ℕ} → Reads atoms lo lo (word epsilonWord ∷ []) epsilon
     grouped : {lo hi : ℕ} {ts : List Token} {r : Pattern} → Reads alternatives lo hi ts r
         → Reads atoms lo hi (mark opening ∷ (ts ++ (mark closing ∷ []))) r
-
-  -- "`@match`, `@fail` or both, each once, in either order", and the set of verdicts asked for: 1 match, 2 fail, 3 both
-  pub data Asks : List Token → ℕ → Type 0 where
-    just-match : Asks (ask match ∷ []) 1
-    just-fail : Asks (ask fail ∷ []) 2
-    match-fail : Asks (ask match ∷ ask fail ∷ []) 3
-    fail-match : Asks (ask fail ∷ ask match ∷ []) 3
 
   -- "`ere`, `:`, the pattern, then .." : the whole text means the pattern r, and asks for the verdicts a
   pub record Whole (ts : List Token) (r : Pattern) (a : ℕ) : Type 0 where

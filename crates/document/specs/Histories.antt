@@ -10,7 +10,8 @@ use lib.Dec.{T}
 use Rattle.document.specs.Lists.{In, consIf}
 use Rattle.document.specs.Combinations.{emptyOf, includes, compatible, join}
 
--- an accepted event: its number, its binding, and the number of the row that brought it
+-- an accepted event: its number, its binding, and the number of the row that brought it (no definition here depends on the
+-- row; it is there so that a report can be explained by rows)
 pub record Event : Type 0 where
   pub row : ℕ
   pub event : ℕ

@@ -8,11 +8,11 @@ use mathlib.Core.List.{List, [], _∷_, _++_}
 use mathlib.Core.List as list
 use lib.ListN.{length, getD, take, drop, replicate}
 use lib.Dec.{leb, ltb, eqb}
-use Rattle.document.specs.Lists.{every, some, equal, placeOf}
+use Rattle.document.specs.Lists.{some, everyBelow, equal, placeOf}
 use Rattle.document.specs.Limits.{width, rowBytes, reportStride}
-use Rattle.document.specs.Refusals.{Refusal, badProperty, badSession, badRow, unknownEvent, badValue, wrongFields, offsetPastLog, textsDiffer, Answer, taken, refused, refuseIf, andThen}
+use Rattle.document.specs.Refusals.{Refusal, badProperty, badSession, badRow, unknownEvent, badValue, wrongFields, offsetPastLog, tableDiffers, Answer, taken, refused, refuseIf, andThen}
 use Rattle.document.specs.Classes.{cr, lf, quote}
-use Rattle.document.specs.Rows.{firstRow, afterRow, fields, valueOf}
+use Rattle.document.specs.Rows.{firstRow, afterRow, rows, fields, valueOf}
 use Rattle.document.specs.Declarations.{Declared, declarations}
 use Rattle.document.specs.Property.{Property, inRange, setOf}
 use Rattle.document.specs.Combinations.{bindsExactly}
@@ -52,14 +52,14 @@ stepRow from d p s reports row = andThen (rowEvent d row) (λ v. stepFrom from p
 unfoldable pub agrees : Declared → Property → Bool
 agrees d p =
     eqb (p .parameters) (length (d .parameters)) && eqb (p .events) (length (d .events))
-    && equal (take (p .events) (p .sets)) (d .sets)
+    && everyBelow (p .events) (λ e. eqb (setOf p e) (getD (d .sets) e 0))
 
 -- what row and run judge first: 1 to 5, 11, 25, 12
 unfoldable pub judged : List ℕ → Property → Session → Answer Declared
 judged text p s =
     andThen (declarations text) (λ d.
     refuseIf (not (inRange p)) badProperty
-    (refuseIf (not (agrees d p)) textsDiffer
+    (refuseIf (not (agrees d p)) tableDiffers
     (refuseIf (not (sound p s)) badSession
     (taken d))))
 
@@ -67,14 +67,27 @@ judged text p s =
 unfoldable pub row : List ℕ → Property → Session → List ℕ → List ℕ → Answer Happened
 row text p s reports bytes = andThen (judged text p s) (λ d. stepRow 0 d p s reports bytes)
 
--- the reader over a log: the row at a position, and the position after it. At the log's end there is none.
+-- the reader over a log: the row at a position, and the position after it
 unfoldable pub rowAt : List ℕ → ℕ → List ℕ
 rowAt log at = firstRow (drop at log)
 
 unfoldable pub nextAt : List ℕ → ℕ → ℕ
 nextAt log at = length log - length (afterRow (drop at log))
 
--- what the run answers: rows taken, next offset, reports so far, the refusal that stopped it if any, and what it leaves
+-- "hands out its rows one after another": at the log's end, and past it, there is none
+pub data Handed : Type 0 where
+  handed : List ℕ → ℕ → Handed
+  noRow : Handed
+
+unfoldable pub handsOut : List ℕ → ℕ → Handed
+handsOut log at = cond (leb (length log) at) noRow (handed (rowAt log at) (nextAt log at))
+
+-- the rows of a log between two offsets
+unfoldable pub rowsBetween : List ℕ → ℕ → ℕ → ℕ
+rowsBetween log from to = length (rows (take (to - from) (drop from log)))
+
+-- what the run answers: rows taken, next offset, what it leaves and its reports, and the refusal that stopped it
+-- (`taken tt` where none did)
 pub record Ran : Type 0 where
   pub taken : ℕ
   pub next : ℕ

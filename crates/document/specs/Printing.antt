@@ -13,6 +13,7 @@ use Rattle.document.specs.Refusals.{Refusal, number, Answer, taken, refu
 use Rattle.document.specs.Classes.{cr, lf, comma, zeroByte, matchWord, failWord}
 use Rattle.document.specs.Rows.{firstRow, afterRow, rows}
 use Rattle.document.specs.Declarations.{Declared, declarations, header}
+use Rattle.document.specs.Patterns.{match}
 use Rattle.document.specs.Property.{Property}
 use Rattle.document.specs.Translate.{translate}
 use Rattle.document.specs.Tables.{numbersAt}
@@ -24,9 +25,9 @@ unfoldable pub digits : ℕ → ℕ → List ℕ
 digits zero k = []
 digits (suc n) k = elim (ltb k 10) [ true ↦ (zeroByte + k) ∷ [] | false ↦ digits n (k / 10) ++ ((zeroByte + k % 10) ∷ []) ]
 
--- row numbers and values have at most twenty digits
+-- no number has more digits than it counts
 unfoldable pub decimal : ℕ → List ℕ
-decimal k = digits 20 k
+decimal k = digits (suc k) k
 
 abbrev pub lineEnd : List ℕ
 lineEnd = cr ∷ lf ∷ []
@@ -42,7 +43,7 @@ refusedWord = bytes "refused "
 
 -- "`match` or `fail`"
 unfoldable pub wordOf : ℕ → List ℕ
-wordOf v = cond (eqb v 1) matchWord failWord
+wordOf v = cond (eqb v match) matchWord failWord
 
 -- "`refused`, a space and the number"
 unfoldable pub refusedText : Refusal → List ℕ
@@ -72,7 +73,8 @@ reportLines m n (suc k) numbers = reportLine m n (take reportStride numbers) ++ 
 unfoldable pub refusedLine : ℕ → ℕ → Refusal → List ℕ
 refusedLine m n r = line (decimal n) (refusedText r ∷ replicate m [])
 
--- the lines of the rows from number n on; each row has the whole report room
+-- the lines of the rows from number n on; each row has the whole report room. The session was started and only stepped, so
+-- it needs no judging again.
 unfoldable pub rowLines : Declared → Property → ℕ → Session → List ℕ → List (List ℕ) → List ℕ
 rowLines d p n s reports [] = []
 rowLines d p n s reports (bytes ∷ more) =

@@ -58,7 +58,7 @@ unfoldable pub isAsked : Property → ℕ → Bool
 isAsked p s = asksFor (p .asked) (verdict p s)
 
 -- "A state is hopeful if some sequence of one or more events leads from it to a verdict asked for". What is meant, over the
--- states that are marked and the events that are allowed, with the sequence as its witness:
+-- states that are marked and the events that are allowed (in the base every event is), with the sequence as its witness:
 pub record Leads (p : Property) (marked allowed : ℕ → Bool) (s : ℕ) : Type 0 where
   pub first : ℕ
   pub rest : List ℕ

@@ -9,7 +9,7 @@ pub data Refusal : Type 0 where
   badProperty badSession noSuchEvent wrongValues : Refusal
   noRoomForSeen noRoomForKept noRoomForReports : Refusal
   badRow unknownEvent badValue wrongFields : Refusal
-  headerDiffers badLookup offsetPastLog textsDiffer : Refusal
+  headerDiffers badLookup offsetPastLog tableDiffers : Refusal
 
 abbrev pub number : Refusal → ℕ
 number textTooLong = 1
@@ -36,7 +36,7 @@ number wrongFields = 21
 number headerDiffers = 22
 number badLookup = 23
 number offsetPastLog = 24
-number textsDiffer = 25
+number tableDiffers = 25
 
 -- what a call answers: its value, or a refusal and the refusal's offset ("its offset for 6 to 9, zero elsewhere")
 pub data Answer (A : Type 0) : Type 0 where

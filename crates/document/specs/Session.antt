@@ -1,5 +1,6 @@
 -- Document 01, "One event" and "Numbers of refusal": the calls of a session over lent tables: start, one event, lookup, and
--- the session check (refusal 12). Each answers for every input; on a refusal every lent number stays (`eventLeaves`).
+-- the session check (refusal 12). Each answers for every input; on a refusal every lent number stays (`leaves`).
+-- Values and combinations in these calls are four numbers of 32 bits: the calls' types say so, and no definition says it again.
 -- Assumes nothing.
 use Prim.Native.Nat.{ℕ, zero, suc, _+_, _-_, _*_}
 use mathlib.Core.Bool.{Bool, true, false, not, cond, _&&_, _||_}
@@ -103,23 +104,42 @@ keeps p k = hopeful p (k .state)
 unfoldable pub reported : Property → Kept → Bool
 reported p k = isAsked p (k .state)
 
--- the event e with binding b in a sound session, where report number `from` is the next free: refused for room exactly
--- when the rows after it would exceed it
-unfoldable pub stepFrom : ℕ → Property → Session → List ℕ → ℕ → List ℕ → Answer Happened
-stepFrom from p s reports e b =
-    let seen = see width b (seenOf s) in
-    let kept = keptAfter width (nextState p) e b (seenOf s) (keeps p) (keptOf s) in
-    let rows = reportsAfter width (nextState p) e b (seenOf s) (reported p) (keptOf s) in
-    let numbers = joinedUp (list.map (reportNumbers p) rows) in
-    refuseIf (ltb (seenRoom (s .seen)) (length seen)) noRoomForSeen
-    (refuseIf (ltb (keptRoom (s .kept)) (length kept)) noRoomForKept
-    (refuseIf (ltb (reportRoom (drop from reports)) (length rows)) noRoomForReports
-    (taken (record {
-      session = sessionWith s seen kept;
-      reports = take from reports ++ numbers ++ drop (from + length numbers) reports;
-      reported = length rows;
-    }))))
+-- what an event comes to, before anything is written: the rows of both tables after it, and those that it reports
+pub record Outcome : Type 0 where
+  pub seen : List (List ℕ)
+  pub kept : List Kept
+  pub rows : List Kept
 
+unfoldable pub outcome : Property → Session → ℕ → List ℕ → Outcome
+outcome p s e b = record {
+  seen = see width b (seenOf s);
+  kept = keptAfter width (nextState p) e b (seenOf s) (keeps p) (keptOf s);
+  rows = reportsAfter width (nextState p) e b (seenOf s) (reported p) (keptOf s);
+}
+
+-- the outcome written down, its reports from report number `from` on
+unfoldable pub written : ℕ → Property → Session → List ℕ → Outcome → Happened
+written from p s reports o =
+    let numbers = joinedUp (list.map (reportNumbers p) (o .rows)) in
+    record {
+      session = sessionWith s (o .seen) (o .kept);
+      reports = take from reports ++ numbers ++ drop (from + length numbers) reports;
+      reported = length (o .rows);
+    }
+
+-- "refused for room exactly when .. after it would exceed their room": 15, 16, 17
+unfoldable pub withinRooms : ℕ → Property → Session → List ℕ → Outcome → Answer Happened
+withinRooms from p s reports o =
+    refuseIf (ltb (seenRoom (s .seen)) (length (o .seen))) noRoomForSeen
+    (refuseIf (ltb (keptRoom (s .kept)) (length (o .kept))) noRoomForKept
+    (refuseIf (ltb (reportRoom (drop from reports)) (length (o .rows))) noRoomForReports
+    (taken (written from p s reports o))))
+
+-- the event e with binding b in a sound session
+unfoldable pub stepFrom : ℕ → Property → Session → List ℕ → ℕ → List ℕ → Answer Happened
+stepFrom from p s reports e b = withinRooms from p s reports (outcome p s e b)
+
+-- the call for one event: 11, 12, 13, 14, then 15 to 17
 unfoldable pub event : Property → Session → List ℕ → ℕ → List ℕ → Answer Happened
 event p s reports e values =
     refuseIf (not (inRange p)) badProperty

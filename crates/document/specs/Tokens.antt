@@ -7,6 +7,7 @@ use lib.ListN.{length, drop}
 use lib.Dec.{eqb, leb}
 use Rattle.document.specs.Lists.{startsWith, equal}
 use Rattle.document.specs.Classes.{classOf, letter, opening, plus, atSign, isBlank, matchWord, failWord}
+use Rattle.document.specs.Patterns.{match, fail}
 use Rattle.document.specs.Declarations.{nameRun}
 
 -- a name; a mark, by its class; `@match` or `@fail`, by the verdict; what begins no token
@@ -28,11 +29,11 @@ pub record Sized : Type 0 where
 -- after an `@`: "one token each whatever byte follows"
 unfoldable pub askToken : List ℕ → Sized
 askToken t =
-    cond (startsWith matchWord t) (record { token = ask 1; size = 6 })
-    (cond (startsWith failWord t) (record { token = ask 2; size = 5 })
+    cond (startsWith matchWord t) (record { token = ask match; size = suc (length matchWord) })
+    (cond (startsWith failWord t) (record { token = ask fail; size = suc (length failWord) })
     (record { token = noToken; size = 1 }))
 
--- the token that begins with the byte b; "a name is a longest run of name bytes that begins with a letter"
+-- the token that begins with the byte b; the marks' classes are those from `(` to `+`; "a name is a longest run of name bytes that begins with a letter"
 unfoldable pub tokenAt : ℕ → List ℕ → Sized
 tokenAt b t =
     cond (eqb (classOf b) letter) (record { token = word (nameRun (b ∷ t)); size = length (nameRun (b ∷ t)) })

@@ -4,13 +4,11 @@ use Prim.Native.Nat.{ℕ, zero-le, _≤_}
 use mathlib.Core.Path.{_≡_, refl, sym, _∙_}
 use mathlib.Core.Logic.{inl, inr, _↔_}
 use mathlib.Core.Bool.{Bool, true, false, not}
-use mathlib.Core.List.{List, [], _++_}
-use mathlib.Core.List as list
+use mathlib.Core.List.{List, []}
 use native.Mathlib.Omega.{arith}
 use borrow.Author.Tests.{ltb-false, leb-false, not-false}
 use lib.Dec.{leb, ltb}
 use lib.ListN.{length, drop}
-use Rattle.document.specs.Lists.{joinedUp}
 use Rattle.document.specs.Limits.{width}
 use Rattle.document.specs.Refusals.{Refusal, badProperty, badSession, noSuchEvent, wrongValues, noRoomForSeen, noRoomForKept, noRoomForReports, Answer, taken, refuseIf}
 use Rattle.document.specs.Combinations.{emptyOf, bindsExactly}
@@ -18,15 +16,16 @@ use Rattle.document.specs.Histories.{Event, slice}
 use Rattle.document.specs.OneEvent.{Kept, joinSeen}
 use Rattle.document.specs.Property.{Property, inRange, setOf, stateFrom, stateAfter, hopeful}
 use Rattle.document.specs.Tables.{seenRoom, keptRoom, reportRoom}
-use Rattle.document.specs.Session.{Session, Happened, ascending, sessionWith, sound, firstKept, lentTables, start, reportNumbers, keeps, stepFrom, event}
-use Rattle.document.specs.Demands.{Lists, itself, SeenIn, KeptIn, Proper, Holds, extended, Demand3}
+use Rattle.document.specs.Session.{Session, Happened, ascending, sessionWith, sound, firstKept, lentTables, start, keeps, Outcome, outcome, written, withinRooms, stepFrom, event, leaves}
+use Rattle.document.specs.Demands.{Lists, itself, SeenIn, KeptIn, Proper, Holds, extended, Reached, fresh, accepted, refusedEvent, Demand3}
 use Rattle.slices.specs.TestsLaws.{so, not-so, either}
 use Rattle.slices.specs.HistoriesLaws.{is-binding, joinOf-made, length-made, made-joinOf}
 use Rattle.slices.specs.OneEventLaws.{Follows}
-use Rattle.slices.specs.SessionLaws.{Fits, seenRoom-with, keptRoom-with, with-again}
+use Rattle.slices.specs.SessionLaws.{Fits, seenRoom-with, keptRoom-with, seenLength-with, keptLength-with, with-again}
 use Rattle.slices.specs.HoldsLaws.{ProperHistory, history-width, kept-follows}
-use Rattle.slices.specs.EventLaws.{history-more, event-answers}
+use Rattle.slices.specs.EventLaws.{history-more, comes-to, event-steps}
 use Rattle.slices.specs.LookupLaws.{looks-up}
+use Rattle.slices.specs.HopefulLaws.{hopeful-right}
 
 -- an answer that is taken has passed the first test
 passed : {A : Type 0} (t : Bool) (r : Refusal) (a : Answer A) (x : A) → refuseIf t r a ≡ taken x → (t ≡ false) × (a ≡ taken x)
@@ -36,27 +35,44 @@ passed false r a x e = (refl, e)
 taken-same : {A : Type 0} (x y : A) → taken x ≡ taken y → x ≡ y
 taken-same x y e = cc
 
--- rows that the history calls for, put into tables with room for them, stand for the history
-holds-with : (p : Property) → inRange p ≡ true → (H : List Event) (s : Session) (seen : List (List ℕ)) (kept : List Kept)
+-- rows that the history calls for have the width, so they fit tables with room for them
+fits-of : (p : Property) → inRange p ≡ true → (H : List Event) (s : Session) (seen : List (List ℕ)) (kept : List Kept)
     → ProperHistory p H → Lists itself (SeenIn H) seen → Lists (λ k. k .combination) (KeptIn p H) kept
-    → length seen ≤ seenRoom (s .seen) → length kept ≤ keptRoom (s .kept) → Holds p H (sessionWith s seen kept)
-holds-with p r H s seen kept f ls lk hs hk =
+    → length seen ≤ seenRoom (s .seen) → length kept ≤ keptRoom (s .kept) → Fits s seen kept
+fits-of p r H s seen kept f ls lk hs hk =
     let o = history-width p r H f in
-    let fits : Fits s seen kept = record {
+    record {
       seenWidth = λ b i. o b (is-binding H b .1 (ls .exactly b .0 i .binding));
       keptWidth = λ k i. length-made width H o (k .combination) (lk .exactly k .0 i .made);
       seenRows = hs;
       keptRows = hk;
-    } in
+    }
+
+-- and put into them they stand for the history, in tables as long as before
+pub record HoldsIn (p : Property) (H : List Event) (s : Session) (seenLength keptLength : ℕ) : Type 0 where
+  pub holds : Holds p H s
+  pub seenSame : length (s .seen) ≡ seenLength
+  pub keptSame : length (s .kept) ≡ keptLength
+
+holds-with : (p : Property) → inRange p ≡ true → (H : List Event) (s : Session) (seen : List (List ℕ)) (kept : List Kept)
+    → ProperHistory p H → Lists itself (SeenIn H) seen → Lists (λ k. k .combination) (KeptIn p H) kept
+    → length seen ≤ seenRoom (s .seen) → length kept ≤ keptRoom (s .kept)
+    → HoldsIn p H (sessionWith s seen kept) (length (s .seen)) (length (s .kept))
+holds-with p r H s seen kept f ls lk hs hk =
+    let fits = fits-of p r H s seen kept f ls lk hs hk in
     record {
-      history = f;
-      seen = seen;
-      kept = kept;
-      seenLists = ls;
-      keptLists = lk;
-      seenRows = rw (seenRoom-with s seen kept fits) hs;
-      keptRows = rw (keptRoom-with s seen kept fits) hk;
-      tables = sym (with-again s seen kept fits seen kept);
+      holds = record {
+        history = f;
+        seen = seen;
+        kept = kept;
+        seenLists = ls;
+        keptLists = lk;
+        seenRows = rw (seenRoom-with s seen kept fits) hs;
+        keptRows = rw (keptRoom-with s seen kept fits) hk;
+        tables = sym (with-again s seen kept fits seen kept);
+      };
+      seenSame = seenLength-with s seen kept fits;
+      keptSame = keptLength-with s seen kept fits;
     }
 
 -- Start ----------------------------------------------------------------------------------------------------------------
@@ -69,7 +85,8 @@ unfolding ascending
 first-seen = record { order = refl; exactly = λ x. ((λ i. absurd i), (λ m. absurd (m .binding .accepted))) }
 
 -- only the empty combination is made of no events, in state 0
-first-follows : (p : Property) (k : Kept) → Follows width (stateAfter p) [] k ↔ (k ≡ record { combination = emptyOf width; state = 0 })
+first-follows : (p : Property) (k : Kept)
+    → Follows width (stateAfter p) [] k ↔ (k ≡ record { combination = emptyOf width; state = 0 })
 unfolding slice stateAfter stateFrom joinSeen
 first-follows p k = (
   (λ f.
@@ -98,16 +115,32 @@ first-kept p r =
       })
     ]
 
-starts : (p : Property) (seen kept : List ℕ) (s : Session) → start p seen kept ≡ taken s → Holds p [] s
+-- start answers by the room for what is kept at the start
+starts : (p : Property) (seen kept : List ℕ) → inRange p ≡ true
+    → (first : List Kept) × Lists (λ k. k .combination) (KeptIn p []) first
+    × (start p seen kept ≡ refuseIf (ltb (keptRoom kept) (length first)) noRoomForKept (taken (sessionWith (lentTables seen kept) [] first)))
+unfolding start
+starts p seen kept r = (firstKept p, first-kept p r, rw r)
+
+-- a start that is taken had a table in range, and leaves tables that stand for no event
+start-range : (p : Property) (seen kept : List ℕ) (s : Session) → start p seen kept ≡ taken s → inRange p ≡ true
+unfolding start
+start-range p seen kept s e =
+    let full = ltb (keptRoom kept) (length (firstKept p)) in
+    let rest = refuseIf full noRoomForKept (taken (sessionWith (lentTables seen kept) [] (firstKept p))) in
+    not-false (inRange p) (passed (not (inRange p)) badProperty rest s e .0)
+
+start-holds : (p : Property) (seen kept : List ℕ) (s : Session) → start p seen kept ≡ taken s → HoldsIn p [] s (length seen) (length kept)
 unfolding start lentTables
-starts p seen kept s e =
+start-holds p seen kept s e =
     let lent = lentTables seen kept in
     let full = ltb (keptRoom kept) (length (firstKept p)) in
     let a = passed (not (inRange p)) badProperty (refuseIf full noRoomForKept (taken (sessionWith lent [] (firstKept p)))) s e in
     let b = passed full noRoomForKept (taken (sessionWith lent [] (firstKept p))) s (a .1) in
     let r : inRange p ≡ true = not-false (inRange p) (a .0) in
     rw (← taken-same (sessionWith lent [] (firstKept p)) s (b .1))
-    (holds-with p r [] lent [] (firstKept p) (none p) first-seen (first-kept p r) zero-le (ltb-false (keptRoom kept) (length (firstKept p)) (b .0)))
+    (holds-with p r [] lent [] (firstKept p) (none p) first-seen (first-kept p r) zero-le
+    (ltb-false (keptRoom kept) (length (firstKept p)) (b .0)))
 
 -- An event that is taken -----------------------------------------------------------------------------------------------
 
@@ -125,32 +158,62 @@ taken-proper p s reports e b h o q =
     let h₄ = passed bad wrongValues (stepFrom 0 p s reports e b) h (h₃ .1) in
     record { declared = leb-false (p .events) e (h₃ .0); width = o; values = not-false (bindsExactly (setOf p e) b) (h₄ .0) }
 
+-- a step that is taken found room for what the event comes to, and wrote that down
+step-taken : (from : ℕ) (p : Property) (s : Session) (reports : List ℕ) (o : Outcome) (h : Happened) → withinRooms from p s reports o ≡ taken h
+    → (length (o .seen) ≤ seenRoom (s .seen)) × (length (o .kept) ≤ keptRoom (s .kept)) × (written from p s reports o ≡ h)
+unfolding withinRooms
+step-taken from p s reports o h q =
+    let left = written from p s reports o in
+    let fullSeen = ltb (seenRoom (s .seen)) (length (o .seen)) in
+    let fullKept = ltb (keptRoom (s .kept)) (length (o .kept)) in
+    let fullReports = ltb (reportRoom (drop from reports)) (length (o .rows)) in
+    let from-reports = refuseIf fullReports noRoomForReports (taken left) in
+    let h₁ = passed fullSeen noRoomForSeen (refuseIf fullKept noRoomForKept from-reports) h q in
+    let h₂ = passed fullKept noRoomForKept from-reports h (h₁ .1) in
+    let h₃ = passed fullReports noRoomForReports (taken left) h (h₂ .1) in (
+      ltb-false (seenRoom (s .seen)) (length (o .seen)) (h₁ .0),
+      ltb-false (keptRoom (s .kept)) (length (o .kept)) (h₂ .0),
+      taken-same left h (h₃ .1),
+    )
+
 goes-on : (p : Property) (H : List Event) (s : Session) → inRange p ≡ true → Holds p H s
-    → (reports : List ℕ) (n e : ℕ) (b : List ℕ) (h : Happened) → length b ≡ width → event p s reports e b ≡ taken h
-    → Holds p (extended p H n e b) (h .session)
-goes-on p H s r st reports n e b h o q =
-    let proper = taken-proper p s reports e b h o q in
-    let a = event-answers p H s r st n e b proper reports in
-    let numbers = joinedUp (list.map (reportNumbers p) (a .rows)) in
-    let left : Happened = record {
-      session = sessionWith s (a .seen) (a .kept);
-      reports = numbers ++ drop (length numbers) reports;
-      reported = length (a .rows);
-    } in
-    let fullSeen = ltb (seenRoom (s .seen)) (length (a .seen)) in
-    let fullKept = ltb (keptRoom (s .kept)) (length (a .kept)) in
-    let fullReports = ltb (reportRoom reports) (length (a .rows)) in
-    let h₁ = passed fullSeen noRoomForSeen (refuseIf fullKept noRoomForKept (refuseIf fullReports noRoomForReports (taken left))) h (sym (a .answer) ∙ q) in
-    let h₂ = passed fullKept noRoomForKept (refuseIf fullReports noRoomForReports (taken left)) h (h₁ .1) in
-    let h₃ = passed fullReports noRoomForReports (taken left) h (h₂ .1) in
-    rw (← taken-same left h (h₃ .1)) (
-    holds-with p r (extended p H n e b) s (a .seen) (a .kept) (history-more p H n e b (st .history) proper) (a .seenLists) (a .keptLists)
-    (ltb-false (seenRoom (s .seen)) (length (a .seen)) (h₁ .0)) (ltb-false (keptRoom (s .kept)) (length (a .kept)) (h₂ .0)))
+    → (from : ℕ) (reports : List ℕ) (n e : ℕ) (b : List ℕ) (h : Happened) → Proper p e b → stepFrom from p s reports e b ≡ taken h
+    → HoldsIn p (extended p H n e b) (h .session) (length (s .seen)) (length (s .kept))
+unfolding stepFrom written
+goes-on p H s r st from reports n e b h proper q =
+    let o = outcome p s e b in
+    let c = comes-to p H s r st n e b proper in
+    let t = step-taken from p s reports o h q in
+    rw (← t .2)
+    (holds-with p r (extended p H n e b) s (o .seen) (o .kept) (history-more p H n e b (st .history) proper) (c .seen) (c .kept) (t .0) (t .1))
+
+-- Sessions that are reached --------------------------------------------------------------------------------------------
+
+reached-range : (p : Property) (seen kept : List ℕ) (H : List Event) (s : Session) → Reached p seen kept H s → inRange p ≡ true
+reached-range p seen kept H s (fresh e) = start-range p seen kept s e
+reached-range p seen kept H s (accepted {H = G} {s = t} reports n e b R o q) = reached-range p seen kept G t R
+reached-range p seen kept H s (refusedEvent {H = G} {s = t} reports e b R q) = reached-range p seen kept G t R
+
+reached-holds : (p : Property) (seen kept : List ℕ) (H : List Event) (s : Session) → Reached p seen kept H s
+    → HoldsIn p H s (length seen) (length kept)
+unfolding leaves
+reached-holds p seen kept H s (fresh e) = start-holds p seen kept s e
+reached-holds p seen kept H s (accepted {H = G} {s = t} {h = h} reports n e b R o q) =
+    let r = reached-range p seen kept G t R in
+    let ih = reached-holds p seen kept G t R in
+    let proper = taken-proper p t reports e b h o q in
+    let g = goes-on p G t r (ih .holds) 0 reports n e b h proper (sym (event-steps p G t r (ih .holds) n e b proper reports) ∙ q) in
+    record { holds = g .holds; seenSame = g .seenSame ∙ ih .seenSame; keptSame = g .keptSame ∙ ih .keptSame }
+reached-holds p seen kept H s (refusedEvent {H = G} {s = t} reports e b R q) = rw q (reached-holds p seen kept G t R)
 
 pub demand-3 : Demand3
+unfolding stepFrom
 demand-3 = record {
   starts = starts;
-  answers = λ p H s r h reports n e b q. event-answers p H s r h n e b q reports;
-  goesOn = goes-on;
+  holds = λ p seen kept H s R. let h = reached-holds p seen kept H s R in (h .holds, h .seenSame, h .keptSame);
+  answers = λ p H s r h from reports n e b q. (outcome p s e b, comes-to p H s r h n e b q, refl);
+  events = λ p H s r h reports e b q. event-steps p H s r h 0 e b q reports;
+  goesOn = λ p H s r st from reports n e b h proper q. goes-on p H s r st from reports n e b h proper q .holds;
   looksUp = looks-up;
+  hopefuls = λ p s r h. hopeful-right p r s h;
 }

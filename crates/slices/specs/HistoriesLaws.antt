@@ -76,13 +76,15 @@ module _ (w : ℕ) where
   joinSeen-joinAll c (b ∷ l) =
       elim (either (includes c b)) [ inl e ↦ rw (e, joinSeen-joinAll c l) | inr e ↦ rw (e, joinSeen-joinAll c l) ]
 
-  included-all : (c a : List ℕ) (l : List (List ℕ)) → T (includes c a) → ((b : List ℕ) → In b l → T (includes c b)) → AllCompatible a l
+  included-all : (c a : List ℕ) (l : List (List ℕ)) → T (includes c a) → ((b : List ℕ) → In b l → T (includes c b))
+      → AllCompatible a l
   included-all c a [] t f = tt
   included-all c a (b ∷ l) t f = (included-compatible c a b t (f b (inl refl)), included-all c a l t (λ x i. f x (inr i)))
 
   included-pairwise : (c : List ℕ) (l : List (List ℕ)) → ((b : List ℕ) → In b l → T (includes c b)) → PairwiseCompatible l
   included-pairwise c [] f = tt
-  included-pairwise c (b ∷ l) f = (included-all c b l (f b (inl refl)) (λ x i. f x (inr i)), included-pairwise c l (λ x i. f x (inr i)))
+  included-pairwise c (b ∷ l) f =
+      (included-all c b l (f b (inl refl)) (λ x i. f x (inr i)), included-pairwise c l (λ x i. f x (inr i)))
 
   pub joinOf-made : (c : List ℕ) (H : List Event) → joinOf c H ≡ c → Made w H c
   joinOf-made c H e = record {
@@ -101,7 +103,8 @@ module _ (w : ℕ) where
   length-joinAll [] o = length-empty w
   length-joinAll (b ∷ l) o = length-join w b (joinAll w l) (o b (inl refl)) (length-joinAll l (λ x i. o x (inr i)))
 
-  joinAll-includes : (l : List (List ℕ)) → OfWidth w l → PairwiseCompatible l → (b : List ℕ) → In b l → T (includes (joinAll w l) b)
+  joinAll-includes : (l : List (List ℕ)) → OfWidth w l → PairwiseCompatible l → (b : List ℕ) → In b l
+      → T (includes (joinAll w l) b)
   joinAll-includes [] o p b i = absurd i
   joinAll-includes (a ∷ l) o p b i =
       let both : T (compatible a (joinAll w l)) = compatible-joinAll a l (o a (inl refl)) (p .0) in
@@ -111,7 +114,8 @@ module _ (w : ℕ) where
             (joinAll-includes l (λ x k. o x (inr k)) (p .1) b j)
       ]
 
-  includes-joinAll : (c : List ℕ) (l : List (List ℕ)) → length c ≡ w → ((b : List ℕ) → In b l → T (includes c b)) → T (includes c (joinAll w l))
+  includes-joinAll : (c : List ℕ) (l : List (List ℕ)) → length c ≡ w → ((b : List ℕ) → In b l → T (includes c b))
+      → T (includes c (joinAll w l))
   includes-joinAll c [] o f = includes-empty w c o
   includes-joinAll c (b ∷ l) o f = includes-join c b (joinAll w l) (f b (inl refl)) (includes-joinAll c l o (λ x i. f x (inr i)))
 
@@ -134,8 +138,10 @@ module _ (w : ℕ) where
 
   -- One event more -----------------------------------------------------------------------------------------------------
 
-  pub joinOf-more-out : (c : List ℕ) (H : List Event) (h : Event) → includes c (h .binding) ≡ false → joinOf c (H ++ (h ∷ [])) ≡ joinOf c H
-  joinOf-more-out c H h e = rw (map-append (λ (x : Event). x .binding) H (h ∷ [])) (joinSeen-more-out w c (bindings H) (h .binding) e)
+  pub joinOf-more-out : (c : List ℕ) (H : List Event) (h : Event) → includes c (h .binding) ≡ false
+      → joinOf c (H ++ (h ∷ [])) ≡ joinOf c H
+  joinOf-more-out c H h e =
+      rw (map-append (λ (x : Event). x .binding) H (h ∷ [])) (joinSeen-more-out w c (bindings H) (h .binding) e)
 
   pub joinOf-more-in : (c : List ℕ) (H : List Event) (h : Event) → length c ≡ w → OfWidth w (bindings (H ++ (h ∷ [])))
       → includes c (h .binding) ≡ true → joinOf c (H ++ (h ∷ [])) ≡ join (h .binding) (joinOf c H)

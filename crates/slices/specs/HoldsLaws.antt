@@ -2,7 +2,7 @@
 -- combination and are hopeful, numbers past the parameters 0.
 -- Assumes nothing.
 use Prim.Native.Nat.{ℕ, zero, suc, _+_, _^_, _<_, _≤_}
-use mathlib.Core.Path.{_≡_, refl}
+use mathlib.Core.Path.{_≡_, refl, ap, _∙_}
 use mathlib.Core.Logic.{inl, inr, _↔_}
 use mathlib.Core.Bool.{true, false, cond, not}
 use mathlib.Core.List.{List, [], _∷_}
@@ -17,7 +17,7 @@ use Rattle.document.specs.Combinations.{bindsFrom, bindsExactly, zeroPast}
 use Rattle.document.specs.Histories.{Event, slice, IsBinding, joinAll, Made}
 use Rattle.document.specs.OneEvent.{Kept}
 use Rattle.document.specs.Property.{Property, inRange, setOf, stateAfter, hopeful}
-use Rattle.document.specs.Session.{Session, keeps}
+use Rattle.document.specs.Session.{Session, seenOf, keptOf, keeps}
 use Rattle.document.specs.Demands.{Lists, itself, SeenIn, KeptIn, Proper, Holds}
 use Rattle.slices.specs.TestsLaws.{so, and-of, of-and}
 use Rattle.slices.specs.CombinationsLaws.{zeroPast-empty, zeroPast-join}
@@ -28,7 +28,7 @@ use Rattle.slices.specs.SeenLaws.{Sees}
 use Rattle.slices.specs.OneEventLaws.{Follows}
 use Rattle.slices.specs.PropertyLaws.{ranges, stateAfter-range}
 use Rattle.slices.specs.HopefulLaws.{hopeful-right}
-use Rattle.slices.specs.SessionLaws.{Fits}
+use Rattle.slices.specs.SessionLaws.{Fits, seenOf-with, keptOf-with}
 
 -- A binding of an event is 0 past the parameters -----------------------------------------------------------------------
 
@@ -44,7 +44,8 @@ unfolding bindsFrom zeroPast
 binds-zeroPast n k s [] f t = tt
 binds-zeroPast zero k s (x ∷ c) f t =
     let h = and-of (cond (holds s k) (not (eqb x 0)) (eqb x 0)) (bindsFrom (suc k) s c) t in
-    of-and (eqb x 0) (zeroPast zero c) (rw (f k (omega arith)) at (h .0)) (binds-zeroPast zero (suc k) s c (λ j l. f j (omega arith)) (h .1))
+    of-and (eqb x 0) (zeroPast zero c) (rw (f k (omega arith)) at (h .0))
+    (binds-zeroPast zero (suc k) s c (λ j l. f j (omega arith)) (h .1))
 binds-zeroPast (suc n) k s (x ∷ c) f t =
     let h = and-of (cond (holds s k) (not (eqb x 0)) (eqb x 0)) (bindsFrom (suc k) s c) t in
     binds-zeroPast n (suc k) s c (λ j l. f j (omega arith)) (h .1)
@@ -68,12 +69,15 @@ module _ (p : Property) (r : inRange p ≡ true) (H : List Event) (f : ProperHis
       let e = m .event .event in
       let h = f (m .event) (m .accepted) in
       let below : setOf p e < 2 ^ (p .parameters) = ranges p r .sets e (h .declared) in
-      rw (← m .is) (binds-zeroPast (p .parameters) 0 (setOf p e) (m .event .binding) (λ j l. holds-past (setOf p e) (p .parameters) j below (omega arith)) (so (h .values)))
+      let none : (j : ℕ) → 0 + p .parameters ≤ j → holds (setOf p e) j ≡ false =
+      λ j l. holds-past (setOf p e) (p .parameters) j below (omega arith) in
+      rw (← m .is) (binds-zeroPast (p .parameters) 0 (setOf p e) (m .event .binding) none (so (h .values)))
 
   pub made-zeroPast : (c : List ℕ) → Made width H c → T (zeroPast (p .parameters) c)
   made-zeroPast c m = rw (m .is) (all (m .bindings) (λ b i. binding-zeroPast b (m .from b i)))
     where
-      all : (l : List (List ℕ)) → ((b : List ℕ) → In b l → T (zeroPast (p .parameters) b)) → T (zeroPast (p .parameters) (joinAll width l))
+      all : (l : List (List ℕ)) → ((b : List ℕ) → In b l → T (zeroPast (p .parameters) b))
+          → T (zeroPast (p .parameters) (joinAll width l))
       all [] g = zeroPast-empty (p .parameters) width
       all (b ∷ l) g = zeroPast-join (p .parameters) b (joinAll width l) (g b (inl refl)) (all l (λ x i. g x (inr i)))
 
@@ -98,12 +102,18 @@ map-itself (x ∷ l) = rw (map-itself l)
 pub seen-lists : (H : List Event) (seen : List (List ℕ)) → Lists itself (SeenIn H) seen ↔ (Sees width H seen × Ascends seen)
 seen-lists H seen = (
   (λ l. (
-    (λ x. ((λ i. let m = l .exactly x .0 i in (m .binding, m .bound)), (λ m. l .exactly x .1 (record { binding = m .0; bound = m .1 })))),
+    (λ x. (
+      (λ i. let m = l .exactly x .0 i in (m .binding, m .bound)),
+      (λ m. l .exactly x .1 (record { binding = m .0; bound = m .1 })),
+    )),
     ascending-of seen (rw (map-itself seen) at (l .order)),
   )),
   (λ m. record {
     order = rw (map-itself seen) (of-ascending seen (m .1));
-    exactly = λ x. ((λ i. let s = m .0 x .0 i in record { binding = s .0; bound = s .1 }), (λ s. m .0 x .1 (s .binding, s .bound)));
+    exactly = λ x. (
+      (λ i. let s = m .0 x .0 i in record { binding = s .0; bound = s .1 }),
+      (λ s. m .0 x .1 (s .binding, s .bound)),
+    );
   }),
 )
 
@@ -116,7 +126,8 @@ pub record Standing (p : Property) (H : List Event) (s : Session) (seen : List (
   pub keptOrder : Ascends (combinations kept)
   pub fits : Fits s seen kept
 
-pub standing : (p : Property) → inRange p ≡ true → (H : List Event) (s : Session) (h : Holds p H s) → Standing p H s (h .seen) (h .kept)
+pub standing : (p : Property) → inRange p ≡ true → (H : List Event) (s : Session) (h : Holds p H s)
+    → Standing p H s (h .seen) (h .kept)
 standing p r H s h =
     let o = history-width p r H (h .history) in
     let seen = seen-lists H (h .seen) .0 (h .seenLists) in
@@ -136,3 +147,11 @@ standing p r H s h =
         keptRows = h .keptRows;
       };
     }
+
+-- the rows of the tables are the lists
+module _ (p : Property) (r : inRange p ≡ true) (H : List Event) (s : Session) (h : Holds p H s) where
+  pub seenOf-holds : seenOf s ≡ h .seen
+  seenOf-holds = ap seenOf (h .tables) ∙ seenOf-with s (h .seen) (h .kept) (standing p r H s h .fits)
+
+  pub keptOf-holds : keptOf s ≡ h .kept
+  keptOf-holds = ap keptOf (h .tables) ∙ keptOf-with s (h .seen) (h .kept) (standing p r H s h .fits)

@@ -1,6 +1,6 @@
 -- The hopeful states as worked out in rounds are those that are meant: `leads` holds exactly where a sequence of one or more
--- allowed events leads to a marked state. Each round finds what the one before found; a round that finds nothing new is the
--- last that does, and every other puts up a flag more, so after as many rounds as there are states nothing new is found.
+-- allowed events leads to a marked state. Each round finds all that the one before found. After a round
+-- that finds nothing new none does, and every other puts a flag more up: so after as many rounds as there are states, none does.
 -- Assumes nothing.
 use Prim.Native.Nat.{ℕ, zero, suc, _+_, _<_, _≤_}
 use mathlib.Core.Path.{_≡_, refl, ap}
@@ -39,7 +39,8 @@ same-or-fewer [] (y ∷ m) h = absurd h
 same-or-fewer (x ∷ l) [] h = absurd h
 same-or-fewer (true ∷ l) (true ∷ m) h = elim (same-or-fewer l m (h .1)) [ inl e ↦ inl (rw e) | inr d ↦ inr d ]
 same-or-fewer (true ∷ l) (false ∷ m) h = absurd (h .0 tt)
-same-or-fewer (false ∷ l) (true ∷ m) h = elim (same-or-fewer l m (h .1)) [ inl e ↦ inr (let q = ap down e in omega arith) | inr d ↦ inr (omega arith) ]
+same-or-fewer (false ∷ l) (true ∷ m) h =
+    elim (same-or-fewer l m (h .1)) [ inl e ↦ inr (let q = ap down e in omega arith) | inr d ↦ inr (omega arith) ]
 same-or-fewer (false ∷ l) (false ∷ m) h = elim (same-or-fewer l m (h .1)) [ inl e ↦ inl (rw e) | inr d ↦ inr (omega arith) ]
 
 within-getD : (l m : List Bool) → Within l m → (k : ℕ) → T (getD l k false) → T (getD m k false)
@@ -116,7 +117,7 @@ module _ (p : Property) (marked allowed : ℕ → Bool) where
   found-within zero = within-first (p .states) (leadsIn p marked allowed (replicate (p .states) false))
   found-within (suc n) = round-within (found n) (found (suc n)) (found-within n)
 
-  -- each round finds nothing new, or more flags are up than there were rounds
+  -- the next round finds nothing new, or at least as many flags are up as there were rounds
   settles : (n : ℕ) → (found (suc n) ≡ found n) ⊎ (down (found n) + n ≤ p .states)
   unfolding leadsAfter
   settles zero = inr (let q = down-replicate (p .states) in omega arith)
@@ -150,7 +151,8 @@ module _ (p : Property) (marked allowed : ℕ → Bool) where
           let out : length (round flags) ≤ s = simp length-tabulate (omega arith) in
           absurd (rw (List·getD-eq-default (round flags) false out) at t)
 
-  pub step-leads : (s e : ℕ) → e < p .events → T (allowed e) → T (marked (nextState p s e)) ⊎ Leads p marked allowed (nextState p s e) → Leads p marked allowed s
+  pub step-leads : (s e : ℕ) → e < p .events → T (allowed e)
+      → T (marked (nextState p s e)) ⊎ Leads p marked allowed (nextState p s e) → Leads p marked allowed s
   unfolding stateFrom
   step-leads s e h t (inl m) = record {
     first = e;
@@ -177,7 +179,10 @@ module _ (p : Property) (marked allowed : ℕ → Bool) where
       none (suc n) (suc s) t = none n s t
   found-leads (suc n) s t =
       let h = leadsIn-of (found n) s (getD-round (found n) s t) in
-      step-leads s (h .event) (h .declared) (h .permitted) (elim (h .arrives) [ inl m ↦ inl m | inr f ↦ inr (found-leads n (nextState p s (h .event)) f) ])
+      step-leads s (h .event) (h .declared) (h .permitted) (elim (h .arrives) [
+        | inl m ↦ inl m
+        | inr f ↦ inr (found-leads n (nextState p s (h .event)) f)
+      ])
 
   -- What is meant is found ---------------------------------------------------------------------------------------------
 

@@ -58,7 +58,9 @@ module _ (w : ℕ) where
             let both : T (compatible b (joinSeen w c l)) = included-compatible c b (joinSeen w c l) (so e) (includes-joinSeen c l o) in
             elim i [
               | inl q ↦ rw q (join-includes-left b (joinSeen w c l) both)
-              | inr j ↦ includes-trans (join b (joinSeen w c l)) (joinSeen w c l) x (join-includes-right b (joinSeen w c l) both) (joinSeen-includes c l o x j t)
+              | inr j ↦
+                  includes-trans (join b (joinSeen w c l)) (joinSeen w c l) x (join-includes-right b (joinSeen w c l) both)
+                  (joinSeen-includes c l o x j t)
             ])
         | inr e ↦ rw (joinSeen-out c b l e) (elim i [ inl q ↦ absurd (not-so e (rw q at t)) | inr j ↦ joinSeen-includes c l o x j t ])
       ]
@@ -97,7 +99,8 @@ module _ (w : ℕ) where
       let k = joinSeen w c l in
       let ok : length k ≡ w = length-joinSeen c l ol in
       includes-antisym (joinSeen w k l) k
-      (joinSeen-least c (joinSeen w k l) l (length-joinSeen k l ol) (λ x i t. joinSeen-includes k l ok x i (joinSeen-includes c l o x i t)))
+      (joinSeen-least c (joinSeen w k l) l (length-joinSeen k l ol) (λ x i t.
+      joinSeen-includes k l ok x i (joinSeen-includes c l o x i t)))
       (includes-joinSeen k l ok)
 
   -- one binding more

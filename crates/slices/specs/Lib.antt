@@ -15,3 +15,4 @@ pub mod SoundLaws
 pub mod LookupLaws
 pub mod EventLaws
 pub mod Demand3
+pub mod SingleAnswer

@@ -105,7 +105,8 @@ append-distinct (x ∷ l) m p q f = (
 )
 
 -- of fewer rows, nothing more stands twice
-pub keepIf-distinct : {A B : Type 0} (f : A → B) (p : A → Bool) (l : List A) → Distinct (list.map f l) → Distinct (list.map f (keepIf p l))
+pub keepIf-distinct : {A B : Type 0} (f : A → B) (p : A → Bool) (l : List A) → Distinct (list.map f l)
+    → Distinct (list.map f (keepIf p l))
 unfolding keepIf
 keepIf-distinct f p [] d = tt
 keepIf-distinct f p (x ∷ l) d =

@@ -11,7 +11,7 @@ use Rattle.document.specs.Lists.{In, equal}
 use Rattle.document.specs.Limits.{width}
 use Rattle.document.specs.Refusals.{taken}
 use Rattle.document.specs.Combinations.{zeroPast}
-use Rattle.document.specs.Histories.{Event, slice}
+use Rattle.document.specs.Histories.{Event, slice, Made}
 use Rattle.document.specs.OneEvent.{Kept}
 use Rattle.document.specs.Property.{Property, inRange, stateAfter, verdict, hopeful}
 use Rattle.document.specs.Session.{Session, seenOf, keptOf, keeps, held, hopeless, findKept, lookup}
@@ -21,8 +21,7 @@ use Rattle.slices.specs.JoinSeenLaws.{joinSeen-again}
 use Rattle.slices.specs.HistoriesLaws.{bindings, slice-joinOf, joinOf, joinOf-made}
 use Rattle.slices.specs.SeenLaws.{sees-joinOf}
 use Rattle.slices.specs.HopefulLaws.{hopeful-right}
-use Rattle.slices.specs.SessionLaws.{seenOf-with, keptOf-with}
-use Rattle.slices.specs.HoldsLaws.{slice-range, standing}
+use Rattle.slices.specs.HoldsLaws.{slice-range, standing, seenOf-holds, keptOf-holds}
 use Rattle.slices.specs.SoundLaws.{holds-sound}
 
 -- Finding a row --------------------------------------------------------------------------------------------------------
@@ -70,16 +69,22 @@ looks-up p H s r h c o z =
     let now = stateAfter p (slice c H) in
     let range : now < p .states = slice-range p r H (h .history) c in
     let same : stateAfter p (slice k H) ≡ now = ap (stateAfter p) (sym (slice-joinOf width c H o)) in
-    let seen : seenOf s ≡ h .seen = ap seenOf (h .tables) ∙ seenOf-with s (h .seen) (h .kept) (st .fits) in
-    let kept : keptOf s ≡ h .kept = ap keptOf (h .tables) ∙ keptOf-with s (h .seen) (h .kept) (st .fits) in
     let found : lookup p s c ≡ taken (findKept p k (h .kept)) =
-    rw (r, holds-sound p r H s h, z, seen, kept, sees-joinOf width H (h .seen) (st .widths) (st .sees) c o) in
+    rw (
+      r,
+      holds-sound p r H s h,
+      z,
+      seenOf-holds p r H s h,
+      keptOf-holds p r H s h,
+      sees-joinOf width H (h .seen) (st .widths) (st .sees) c o,
+    ) in
     let states : (x : Kept) → In x (h .kept) → x .combination ≡ k → x .state ≡ now =
     λ x i q. st .follows x .0 i .0 .state ∙ ap (λ (d : List ℕ). stateAfter p (slice d H)) q ∙ same in
     elim (either (hopeful p now)) [
       | inl e ↦
           let row : Kept = record { combination = k; state = now } in
-          let there : In row (h .kept) = st .follows row .1 (record { made = joinOf-made width k H (joinSeen-again width c (bindings H) o (st .widths)); state = sym same }, unfold keeps in so e) in
+          let made : Made width H k = joinOf-made width k H (joinSeen-again width c (bindings H) o (st .widths)) in
+          let there : In row (h .kept) = st .follows row .1 (record { made = made; state = sym same }, unfold keeps in so e) in
           rw (found ∙ ap taken (findKept-held p k now (h .kept) states row there refl)) (isHeld (hopeful-right p r now range .0 (so e)))
       | inr e ↦
           let none : (x : Kept) → In x (h .kept) → x .combination ≡ k → ⊥ =

@@ -15,7 +15,7 @@ use Rattle.document.specs.Combinations.{precedes}
 use Rattle.document.specs.OneEvent.{Kept, insertKept, inOrder, insertSeen}
 use Rattle.document.specs.Session.{ascending}
 use Rattle.slices.specs.TestsLaws.{so, not-so, true-of, either, and-of, of-and, or-of, of-or, of-eqb}
-use Rattle.slices.specs.ListsLaws.{in-map, Distinct}
+use Rattle.slices.specs.ListsLaws.{in-map, map-in, Distinct}
 
 -- The order ------------------------------------------------------------------------------------------------------------
 
@@ -106,19 +106,32 @@ pub ascends-distinct : (l : List (List ℕ)) → Ascends l → Distinct l
 ascends-distinct [] a = tt
 ascends-distinct (x ∷ l) a = ((λ i. precedes-irrefl x (a .0 x i)), ascends-distinct l (a .1))
 
--- two ascending lists with the same members are one
-pub ascends-unique : (l m : List (List ℕ)) → Ascends l → Ascends m → ((x : List ℕ) → In x l ↔ In x m) → l ≡ m
-ascends-unique [] [] p q f = refl
-ascends-unique [] (y ∷ m) p q f = absurd (f y .1 (inl refl))
-ascends-unique (x ∷ l) [] p q f = absurd (f x .0 (inl refl))
-ascends-unique (x ∷ l) (y ∷ m) p q f =
-    let e : x ≡ y = elim (f x .0 (inl refl)) [
+-- two lists with the same members that ascend by their combinations are one
+pub ascends-unique : {A : Type 0} (f : A → List ℕ) (l m : List A) → Ascends (list.map f l) → Ascends (list.map f m)
+    → ((x : A) → In x l ↔ In x m) → l ≡ m
+ascends-unique f [] [] p q g = refl
+ascends-unique f [] (y ∷ m) p q g = absurd (g y .1 (inl refl))
+ascends-unique f (x ∷ l) [] p q g = absurd (g x .0 (inl refl))
+ascends-unique f (x ∷ l) (y ∷ m) p q g =
+    let e : x ≡ y = elim (g x .0 (inl refl)) [
       | inl r ↦ r
-      | inr i ↦ elim (f y .1 (inl refl)) [ inl r ↦ sym r | inr k ↦ absurd (precedes-irrefl x (precedes-trans x y x (p .0 y k) (q .0 x i))) ]
+      | inr i ↦ elim (g y .1 (inl refl)) [
+        | inl r ↦ sym r
+        | inr k ↦
+            let before : T (precedes (f x) (f y)) = p .0 (f y) (map-in f l y k) in
+            let after : T (precedes (f y) (f x)) = q .0 (f x) (map-in f m x i) in
+            absurd (precedes-irrefl (f x) (precedes-trans (f x) (f y) (f x) before after))
+      ]
     ] in
-    ap₂ _∷_ e (ascends-unique l m (p .1) (q .1) (λ z. (
-      (λ i. elim (f z .0 (inr i)) [ inl r ↦ absurd (precedes-irrefl x (let t = p .0 z i in rw (r ∙ sym e) at t)) | inr k ↦ k ]),
-      (λ i. elim (f z .1 (inr i)) [ inl r ↦ absurd (precedes-irrefl y (let t = q .0 z i in rw (r ∙ e) at t)) | inr k ↦ k ]),
+    ap₂ _∷_ e (ascends-unique f l m (p .1) (q .1) (λ z. (
+      (λ i. elim (g z .0 (inr i)) [
+        | inl r ↦ absurd (precedes-irrefl (f x) (let t = p .0 (f z) (map-in f l z i) in rw (r ∙ sym e) at t))
+        | inr k ↦ k
+      ]),
+      (λ i. elim (g z .1 (inr i)) [
+        | inl r ↦ absurd (precedes-irrefl (f y) (let t = q .0 (f z) (map-in f m z i) in rw (r ∙ e) at t))
+        | inr k ↦ k
+      ]),
     )))
 
 -- Putting in order -----------------------------------------------------------------------------------------------------
@@ -132,11 +145,13 @@ insertSeen-here : (b x : List ℕ) (l : List (List ℕ)) → precedes x b ≡ fa
 unfolding insertSeen
 insertSeen-here b x l e = rw (insertSeen, e)
 
-insertKept-after : (r x : Kept) (l : List Kept) → precedes (x .combination) (r .combination) ≡ true → insertKept r (x ∷ l) ≡ x ∷ insertKept r l
+insertKept-after : (r x : Kept) (l : List Kept) → precedes (x .combination) (r .combination) ≡ true
+    → insertKept r (x ∷ l) ≡ x ∷ insertKept r l
 unfolding insertKept
 insertKept-after r x l e = rw (insertKept, e)
 
-insertKept-here : (r x : Kept) (l : List Kept) → precedes (x .combination) (r .combination) ≡ false → insertKept r (x ∷ l) ≡ r ∷ x ∷ l
+insertKept-here : (r x : Kept) (l : List Kept) → precedes (x .combination) (r .combination) ≡ false
+    → insertKept r (x ∷ l) ≡ r ∷ x ∷ l
 unfolding insertKept
 insertKept-here r x l e = rw (insertKept, e)
 
@@ -181,7 +196,11 @@ unfolding insertKept insertSeen
 insertKept-combinations r [] = refl
 insertKept-combinations r (x ∷ l) =
     elim (either (precedes (x .combination) (r .combination))) [
-      | inl e ↦ rw (insertKept-after r x l e, insertSeen-after (r .combination) (x .combination) (combinations l) e, insertKept-combinations r l)
+      | inl e ↦ rw (
+        insertKept-after r x l e,
+        insertSeen-after (r .combination) (x .combination) (combinations l) e,
+        insertKept-combinations r l,
+      )
       | inr e ↦ rw (insertKept-here r x l e, insertSeen-here (r .combination) (x .combination) (combinations l) e)
     ]
 

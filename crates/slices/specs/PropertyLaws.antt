@@ -34,7 +34,9 @@ ranges p r =
     record {
       parameters = leb→le (p .parameters) width (h₅ .0);
       states = leb→le 1 (p .states) (and-of (leb 1 (p .states)) (leb (p .states) mostStates) (h₄ .1) .0);
-      sets = λ e k. ltb→lt (setOf p e) (2 ^ (p .parameters)) (everyBelow-of (p .events) (λ e. ltb (setOf p e) (2 ^ (p .parameters))) (h₂ .1) e k);
+      sets = λ e k.
+          let t = everyBelow-of (p .events) (λ e. ltb (setOf p e) (2 ^ (p .parameters))) (h₂ .1) e k in
+          ltb→lt (setOf p e) (2 ^ (p .parameters)) t;
       next = λ s e i k.
           let t = everyBelow-of (p .states) row (h₁ .1) s i in
           let u = and-of (leb (verdict p s) 2) (everyBelow (p .events) (λ e. ltb (nextState p s e) (p .states))) t in
@@ -52,7 +54,8 @@ pub stateAfter-more : (p : Property) (l : List ℕ) (e : ℕ) → stateAfter p (
 unfolding stateAfter stateFrom
 stateAfter-more p l e = stateFrom-append p 0 l (e ∷ [])
 
-stateFrom-range : (p : Property) → Ranges p → (s : ℕ) (l : List ℕ) → s < p .states → ((e : ℕ) → In e l → e < p .events) → stateFrom p s l < p .states
+stateFrom-range : (p : Property) → Ranges p → (s : ℕ) (l : List ℕ) → s < p .states → ((e : ℕ) → In e l → e < p .events)
+    → stateFrom p s l < p .states
 unfolding stateFrom
 stateFrom-range p r s [] h f = h
 stateFrom-range p r s (e ∷ l) h f = stateFrom-range p r (nextState p s e) l (r .next s e h (f e (inl refl))) (λ x i. f x (inr i))

@@ -53,52 +53,77 @@ length-keptRowNumbers kept o =
     ∙ rw (length-map kept keptNumbers)
 
 module _ (s : Session) (seen : List (List ℕ)) (kept : List Kept) (f : Fits s seen kept) where
-  seen-fit : length (joinedUp seen) ≤ seenRoom (s .seen) * seenStride
+  -- the numbers of each room
+  abbrev seenSize : ℕ
+  seenSize = seenRoom (s .seen) * seenStride
+
+  abbrev keptSize : ℕ
+  keptSize = keptRoom (s .kept) * keptStride
+
+  -- the same tables with the rows in them
+  abbrev table : Session
+  table = sessionWith s seen kept
+
+  seen-fit : length (joinedUp seen) ≤ seenSize
   seen-fit = let q = length-joinedUp width seen (f .seenWidth) in let h = f .seenRows in omega arith
 
-  kept-fit : length (keptRowNumbers kept) ≤ keptRoom (s .kept) * keptStride
+  kept-fit : length (keptRowNumbers kept) ≤ keptSize
   kept-fit = let q = length-keptRowNumbers kept (f .keptWidth) in let h = f .keptRows in omega arith
 
-  pub seenOf-with : seenOf (sessionWith s seen kept) ≡ seen
+  pub seenOf-with : seenOf table ≡ seen
   unfolding seenOf sessionWith seenRows seenTable
   seenOf-with =
-      let size = seenRoom (s .seen) * seenStride in
-      ap (λ (t : List ℕ). tabulate (length seen) (λ i. numbersAt width t (i * seenStride))) (filled-front size (joinedUp seen) (s .seen))
-      ∙ rows-back width seen (zeros (size - length (joinedUp seen)) ++ drop size (s .seen)) (f .seenWidth)
+      ap (λ (t : List ℕ). tabulate (length seen) (λ i. numbersAt width t (i * seenStride)))
+      (filled-front seenSize (joinedUp seen) (s .seen))
+      ∙ rows-back width seen (zeros (seenSize - length (joinedUp seen)) ++ drop seenSize (s .seen)) (f .seenWidth)
 
-  pub keptOf-with : keptOf (sessionWith s seen kept) ≡ kept
+  pub keptOf-with : keptOf table ≡ kept
   unfolding keptOf sessionWith keptRows keptTable
   keptOf-with =
-      let size = keptRoom (s .kept) * keptStride in
-      ap (λ (t : List ℕ). tabulate (length kept) (λ i. keptAt width t (i * keptStride))) (filled-front size (keptRowNumbers kept) (s .kept))
-      ∙ kept-back width kept (zeros (size - length (keptRowNumbers kept)) ++ drop size (s .kept)) (f .keptWidth)
+      ap (λ (t : List ℕ). tabulate (length kept) (λ i. keptAt width t (i * keptStride)))
+      (filled-front keptSize (keptRowNumbers kept) (s .kept))
+      ∙ kept-back width kept (zeros (keptSize - length (keptRowNumbers kept)) ++ drop keptSize (s .kept)) (f .keptWidth)
 
-  pub seenRoom-with : seenRoom (sessionWith s seen kept .seen) ≡ seenRoom (s .seen)
+  pub seenRoom-with : seenRoom (table .seen) ≡ seenRoom (s .seen)
   unfolding sessionWith seenTable
-  seenRoom-with = seenRoom-same (seenTable seen (s .seen)) (s .seen) (length-filled (seenRoom (s .seen) * seenStride) (joinedUp seen) (s .seen) seen-fit (seenRoom-holds (s .seen)))
+  seenRoom-with =
+      seenRoom-same (seenTable seen (s .seen)) (s .seen)
+      (length-filled seenSize (joinedUp seen) (s .seen) seen-fit (seenRoom-holds (s .seen)))
 
-  pub keptRoom-with : keptRoom (sessionWith s seen kept .kept) ≡ keptRoom (s .kept)
+  pub keptRoom-with : keptRoom (table .kept) ≡ keptRoom (s .kept)
   unfolding sessionWith keptTable
-  keptRoom-with = keptRoom-same (keptTable kept (s .kept)) (s .kept) (length-filled (keptRoom (s .kept) * keptStride) (keptRowNumbers kept) (s .kept) kept-fit (keptRoom-holds (s .kept)))
+  keptRoom-with =
+      keptRoom-same (keptTable kept (s .kept)) (s .kept)
+      (length-filled keptSize (keptRowNumbers kept) (s .kept) kept-fit (keptRoom-holds (s .kept)))
+
+  -- the tables stay as long as they were
+  pub seenLength-with : length (table .seen) ≡ length (s .seen)
+  unfolding sessionWith seenTable
+  seenLength-with = length-filled seenSize (joinedUp seen) (s .seen) seen-fit (seenRoom-holds (s .seen))
+
+  pub keptLength-with : length (table .kept) ≡ length (s .kept)
+  unfolding sessionWith keptTable
+  keptLength-with = length-filled keptSize (keptRowNumbers kept) (s .kept) kept-fit (keptRoom-holds (s .kept))
 
   -- rows put in later
-  pub with-again : (seen′ : List (List ℕ)) (kept′ : List Kept) → sessionWith (sessionWith s seen kept) seen′ kept′ ≡ sessionWith s seen′ kept′
+  pub with-again : (seen′ : List (List ℕ)) (kept′ : List Kept) → sessionWith table seen′ kept′ ≡ sessionWith s seen′ kept′
   unfolding sessionWith seenTable keptTable
   with-again seen′ kept′ =
       let a : seenTable seen′ (seenTable seen (s .seen)) ≡ seenTable seen′ (s .seen) =
-      rw seenRoom-with (filled-again (seenRoom (s .seen) * seenStride) (joinedUp seen) (s .seen) seen-fit (seenRoom-holds (s .seen)) (joinedUp seen′)) in
+      rw seenRoom-with (filled-again seenSize (joinedUp seen) (s .seen) seen-fit (seenRoom-holds (s .seen)) (joinedUp seen′)) in
       let b : keptTable kept′ (keptTable kept (s .kept)) ≡ keptTable kept′ (s .kept) =
-      rw keptRoom-with (filled-again (keptRoom (s .kept) * keptStride) (keptRowNumbers kept) (s .kept) kept-fit (keptRoom-holds (s .kept)) (keptRowNumbers kept′)) in
+      rw keptRoom-with
+      (filled-again keptSize (keptRowNumbers kept) (s .kept) kept-fit (keptRoom-holds (s .kept)) (keptRowNumbers kept′)) in
       λ i. record { seenCount = length seen′; keptCount = length kept′; seen = a i; kept = b i }
 
-  pub seen-zero : zeroBetween (sessionWith s seen kept .seenCount * seenStride) (seenRoom (sessionWith s seen kept .seen) * seenStride) (sessionWith s seen kept .seen) ≡ true
+  pub seen-zero : zeroBetween (table .seenCount * seenStride) (seenRoom (table .seen) * seenStride) (table .seen) ≡ true
   unfolding sessionWith seenTable
   seen-zero =
       rw (seenRoom-with, ← length-joinedUp width seen (f .seenWidth))
-      (zeroBetween-filled (seenRoom (s .seen) * seenStride) (joinedUp seen) (s .seen) seen-fit (seenRoom-holds (s .seen)))
+      (zeroBetween-filled seenSize (joinedUp seen) (s .seen) seen-fit (seenRoom-holds (s .seen)))
 
-  pub kept-zero : zeroBetween (sessionWith s seen kept .keptCount * keptStride) (keptRoom (sessionWith s seen kept .kept) * keptStride) (sessionWith s seen kept .kept) ≡ true
+  pub kept-zero : zeroBetween (table .keptCount * keptStride) (keptRoom (table .kept) * keptStride) (table .kept) ≡ true
   unfolding sessionWith keptTable
   kept-zero =
       rw (keptRoom-with, ← length-keptRowNumbers kept (f .keptWidth))
-      (zeroBetween-filled (keptRoom (s .kept) * keptStride) (keptRowNumbers kept) (s .kept) kept-fit (keptRoom-holds (s .kept)))
+      (zeroBetween-filled keptSize (keptRowNumbers kept) (s .kept) kept-fit (keptRoom-holds (s .kept)))

@@ -23,7 +23,8 @@ use Rattle.slices.specs.SeenLaws.{sees-joinOf}
 use Rattle.slices.specs.SessionLaws.{seenOf-with, keptOf-with, seenRoom-with, keptRoom-with, seen-zero, kept-zero}
 use Rattle.slices.specs.HoldsLaws.{ProperHistory, slice-range, binding-zeroPast, made-zeroPast, Standing, standing}
 
-module _ (p : Property) (r : inRange p ≡ true) (H : List Event) (s : Session) (f : ProperHistory p H) (seen : List (List ℕ)) (kept : List Kept) (h : Standing p H s seen kept) where
+module _ (p : Property) (r : inRange p ≡ true) (H : List Event) (s : Session) (f : ProperHistory p H)
+    (seen : List (List ℕ)) (kept : List Kept) (h : Standing p H s seen kept) where
   abbrev table : Session
   table = sessionWith s seen kept
 
@@ -67,7 +68,8 @@ module _ (p : Property) (r : inRange p ≡ true) (H : List Event) (s : Session) 
       let m = h .follows k .0 i in
       let range : k .state < p .states = rw (m .0 .state) (slice-range p r H f c) in
       let join : joinSeen width c seen ≡ c =
-      sees-joinOf width H seen (h .widths) (h .sees) c (length-made width H (h .widths) c (m .0 .made)) ∙ made-joinOf width H (h .widths) c (m .0 .made) in
+      sees-joinOf width H seen (h .widths) (h .sees) c (length-made width H (h .widths) c (m .0 .made))
+      ∙ made-joinOf width H (h .widths) c (m .0 .made) in
       of-and (ltb (k .state) (p .states) && hopeful p (k .state)) (equal (joinSeen width c seen) c)
       (of-and (ltb (k .state) (p .states)) (hopeful p (k .state)) (lt→ltb (k .state) (p .states) range) (m .1))
       (of-equal (joinSeen width c seen) c join)))

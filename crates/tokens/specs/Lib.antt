@@ -1,0 +1,3 @@
+pub mod Lexing
+pub mod LexingLaws
+pub mod TokensLaws

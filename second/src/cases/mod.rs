@@ -1,0 +1,118 @@
+//! The chosen cases: batches for every refusal and both sides of every boundary of document 01,
+//! and a modest random share. `write` lays them down, `recheck` answers them again.
+
+use std::fs;
+use std::io;
+use std::path::{Path, PathBuf};
+
+use crate::batch::answer::answer_batch;
+use crate::batch::write::Request;
+use crate::make::maker::make;
+
+pub mod broken;
+pub mod declarations;
+pub mod logs;
+pub mod patterns;
+pub mod properties;
+pub mod rooms;
+pub mod sessions;
+pub mod texts;
+pub mod watch;
+
+/// The document's example.
+pub const EVENTS: &[u8] = b"event,bay,batch\r\nmix,0,1\r\nfeed,1,1\r\ndrain,1,0\r\n";
+pub const PATTERN: &[u8] = b"ere : mix feed+ drain @match";
+pub const HEADER: &[u8] = b"event,bay,batch\r\n";
+pub const ROWS: &[u8] = b"mix,,7\r\nfeed,1,7\r\ndrain,2,\r\nfeed,2,7\r\ndrain,1,\r\ndrain,2,\r\n";
+
+/// A batch of requests under a kind and a name.
+pub struct Case {
+    pub kind: &'static str,
+    pub name: &'static str,
+    pub batch: Vec<u8>,
+}
+
+/// A case of these requests.
+pub fn case(kind: &'static str, name: &'static str, requests: Vec<Request>) -> Case {
+    Case { kind, name, batch: requests.into_iter().flat_map(Request::line).collect() }
+}
+
+/// Random batches beside the chosen ones: kind, seed, requests.
+const RANDOM: [(&str, u64, usize); 4] =
+    [("texts", 1, 400), ("patterns", 2, 400), ("sessions", 3, 600), ("logs", 4, 500)];
+
+/// Every case.
+pub fn all() -> Vec<Case> {
+    let mut cases = [
+        declarations::cases(),
+        texts::cases(),
+        patterns::cases(),
+        sessions::cases(),
+        broken::cases(),
+        rooms::cases(),
+        logs::cases(),
+        watch::cases(),
+    ]
+    .into_iter()
+    .flatten()
+    .collect::<Vec<Case>>();
+    let random = RANDOM
+        .iter()
+        .filter_map(|&(kind, seed, count)| make(kind, seed, count).map(|batch| Case { kind, name: "random", batch }));
+    cases.extend(random);
+    cases
+}
+
+/// Writes DIR/KIND/NAME.batch and NAME.answers for every case.
+pub fn write(dir: &Path) -> io::Result<()> {
+    for case in all() {
+        let folder = dir.join(case.kind);
+        fs::create_dir_all(&folder)?;
+        fs::write(folder.join(format!("{}.batch", case.name)), &case.batch)?;
+        fs::write(folder.join(format!("{}.answers", case.name)), answer_batch(&case.batch))?;
+    }
+    Ok(())
+}
+
+/// Answers every batch under DIR again; false, and the first differing line named, where one differs.
+pub fn recheck(dir: &Path) -> io::Result<bool> {
+    let mut batches = Vec::new();
+    find_batches(dir, &mut batches)?;
+    batches.sort();
+    let mut same = true;
+    for path in &batches {
+        let wanted = fs::read(path.with_extension("answers")).unwrap_or_default();
+        let answers = answer_batch(&fs::read(path)?);
+        if answers != wanted {
+            println!("{}: line {} differs", path.display(), first_difference(&answers, &wanted));
+            same = false;
+        }
+    }
+    println!("{} batches, {}", batches.len(), if same { "all as written" } else { "some differ" });
+    Ok(same && !batches.is_empty())
+}
+
+fn find_batches(dir: &Path, found: &mut Vec<PathBuf>) -> io::Result<()> {
+    for entry in fs::read_dir(dir)? {
+        let path = entry?.path();
+        if path.is_dir() {
+            find_batches(&path, found)?;
+        } else if path.extension().is_some_and(|extension| extension == "batch") {
+            found.push(path);
+        }
+    }
+    Ok(())
+}
+
+/// The number of the first line, from 1, at which two texts differ.
+fn first_difference(a: &[u8], b: &[u8]) -> usize {
+    let (mut a, mut b) = (a.split(|&byte| byte == b'\n'), b.split(|&byte| byte == b'\n'));
+    let mut line = 1;
+    while let (Some(x), Some(y)) = (a.next(), b.next()) {
+        if x != y {
+            break;
+        }
+        line += 1;
+    }
+    line
+}

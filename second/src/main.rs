@@ -1,0 +1,72 @@
+//! The command line of the second program.
+#![forbid(unsafe_code)]
+
+use std::io::{self, Read, Write};
+use std::path::Path;
+use std::process::ExitCode;
+
+use second::batch::answer::answer_batch;
+use second::cases;
+use second::make::folders::write_folders;
+use second::make::maker::make;
+use second::watch::{watch, Way};
+
+const USAGE: &str = "usage:
+  second watch [--by-history] FOLDER   print what the watch program prints for FOLDER
+  second answer                        answer the batch on standard input
+  second make KIND SEED COUNT          make a random batch: texts, patterns, sessions or logs
+  second folders SEED COUNT DIR        make random folders for the watch program
+  second cases DIR                     write the chosen cases
+  second recheck DIR                   answer every batch of DIR again and compare";
+
+fn main() -> ExitCode {
+    let arguments: Vec<String> = std::env::args().skip(1).collect();
+    let words: Vec<&str> = arguments.iter().map(String::as_str).collect();
+    match command(&words) {
+        Ok(true) => ExitCode::SUCCESS,
+        Ok(false) => ExitCode::from(1),
+        Err(error) => {
+            eprintln!("second: {error}");
+            ExitCode::from(2)
+        }
+    }
+}
+
+/// Runs a command; false if it found a difference.
+fn command(words: &[&str]) -> io::Result<bool> {
+    match *words {
+        ["watch", folder] => watch_folder(Way::ByTables, folder),
+        ["watch", "--by-history", folder] => watch_folder(Way::ByHistory, folder),
+        ["answer"] => {
+            let mut batch = Vec::new();
+            io::stdin().lock().read_to_end(&mut batch)?;
+            io::stdout().lock().write_all(&answer_batch(&batch))
+        }
+        ["make", kind, seed, count] => {
+            let batch = make(kind, parsed(seed)?, parsed(count)?).ok_or_else(usage)?;
+            io::stdout().lock().write_all(&batch)
+        }
+        ["folders", seed, count, dir] => write_folders(parsed(seed)?, parsed(count)?, Path::new(dir)),
+        ["cases", dir] => cases::write(Path::new(dir)),
+        ["recheck", dir] => return cases::recheck(Path::new(dir)),
+        _ => Err(usage()),
+    }?;
+    Ok(true)
+}
+
+fn usage() -> io::Error {
+    io::Error::new(io::ErrorKind::InvalidInput, USAGE)
+}
+
+fn parsed<T: std::str::FromStr>(word: &str) -> io::Result<T> {
+    word.parse().map_err(|_| usage())
+}
+
+/// Prints what the watch program prints for a folder; a missing file counts as empty.
+fn watch_folder(way: Way, folder: &str) -> io::Result<()> {
+    let file = |name: &str| std::fs::read(Path::new(folder).join(name)).unwrap_or_default();
+    let (events, pattern, log) = (file("events.csv"), file("pattern.txt"), file("log.csv"));
+    let mut out = io::BufWriter::new(io::stdout().lock());
+    watch(way, &events, &pattern, &log, &mut out)?;
+    out.flush()
+}

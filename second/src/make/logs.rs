@@ -1,0 +1,74 @@
+//! Random logs: rows and runs into sessions, and whole files for the program.
+
+use crate::batch::write::call;
+use crate::make::maker::Maker;
+use crate::make::patterns::{any_pattern, bare_property, pattern};
+use crate::make::sessions::lend;
+use crate::make::texts::{any_declarations, any_row, declarations, log, Declared};
+
+pub fn scene(maker: &mut Maker) {
+    if maker.rng.chance(15) {
+        watch(maker);
+        return;
+    }
+    let (declared, text) = declarations(&mut maker.rng);
+    let pattern = pattern(&mut maker.rng, &declared);
+    maker.send(call("declare").bytes(text));
+    maker.send(call("pattern").bytes(pattern));
+    if maker.rng.chance(3) {
+        let property = bare_property(&mut maker.rng);
+        maker.send(call("property").property(&property));
+    }
+    if maker.rng.chance(3) {
+        let text = any_declarations(&mut maker.rng);
+        maker.send(call("declare").bytes(text));
+    }
+    lend(maker);
+    if maker.rng.chance(97) {
+        maker.send(call("start"));
+    }
+    let values = maker.rng.between(1, 3);
+    for _ in 0..maker.rng.between(2, 10) {
+        if maker.rng.chance(55) {
+            row(maker, &declared, values);
+        } else {
+            run(maker, &declared, values);
+        }
+    }
+}
+
+fn row(maker: &mut Maker, declared: &Declared, values: usize) {
+    let row = any_row(&mut maker.rng, declared, values);
+    maker.send(call("row").bytes(row));
+    if maker.rng.chance(60) {
+        let number = if maker.rng.chance(10) { maker.rng.odd_long() } else { maker.rng.below(50) as u64 };
+        maker.send(call("lines").number(number));
+    }
+}
+
+fn run(maker: &mut Maker, declared: &Declared, values: usize) {
+    let rng = &mut maker.rng;
+    let rows = rng.below(8);
+    let text = log(rng, declared, rows, values);
+    let offset = match rng.below(10) {
+        0..=5 => 0,
+        6..=8 => rng.below(text.len() + 1) as u64,
+        _ => rng.odd_long(),
+    };
+    let budget = if rng.chance(60) { 100 } else { rng.odd_long() };
+    maker.send(call("run").number(offset).number(budget).bytes(text));
+}
+
+fn watch(maker: &mut Maker) {
+    let rng = &mut maker.rng;
+    let (declared, text) = declarations(rng);
+    let text = if rng.chance(95) { text } else { any_declarations(rng) };
+    let pattern = if rng.chance(90) { pattern(rng, &declared) } else { any_pattern(rng, &declared) };
+    let (rows, values) = (rng.below(25), rng.between(1, 3));
+    let mut whole = declared.header().into_bytes();
+    if rng.chance(97) {
+        whole.extend(b"\r\n");
+    }
+    whole.extend(log(rng, &declared, rows, values));
+    maker.send(call("watch").bytes(text).bytes(pattern).bytes(whole));
+}
