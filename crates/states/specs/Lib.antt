@@ -1,0 +1,4 @@
+pub mod Growing
+pub mod StepLaws
+pub mod RowLaws
+pub mod GrowLaws
