@@ -20,7 +20,6 @@ use Rattle.document.specs.Log.{isBadValue, valuesOf}
 use Rattle.entries.specs.Entries.{isBarred}
 use Rattle.rows.specs.RowsLaws.{some-over, some-found, some-goes-on, split-bool}
 
-
 -- The turns of the loop that looks for a byte that no row may hold.
 module _ (s : List ℕ) (i : ℕ) (q : some isBarred (drop i s) ≡ some isBarred s) where
   pub barred-cr : i < length s → getD s i 0 ≡ cr → true ≡ some isBarred s
@@ -33,7 +32,7 @@ module _ (s : List ℕ) (i : ℕ) (q : some isBarred (drop i s) ≡ some isBarre
   barred-quote h e = sym (some-found isBarred s i h (rw e)) ∙ q
 
   pub barred-turn : i < length s → (getD s i 0 ≡ cr → ⊥) → (getD s i 0 ≡ lf → ⊥) → (getD s i 0 ≡ quote → ⊥)
-    → some isBarred (drop (i + 1) s) ≡ some isBarred s
+      → some isBarred (drop (i + 1) s) ≡ some isBarred s
   barred-turn h n m k =
       sym (some-goes-on isBarred s i h (rw (ne-eqb (getD s i 0) cr n, ne-eqb (getD s i 0) lf m, ne-eqb (getD s i 0) quote k))) ∙ q
 
@@ -86,19 +85,19 @@ fields-here : (fs : List (List ℕ)) (k : ℕ) → k < length fs → drop k fs �
 fields-here fs k h = rw (add-one, drop-cons fs k [] h)
 
 pub takes-bad : (fs : List (List ℕ)) (values : List ℕ) (k : ℕ) → Takes fs values k → k < length fs → true ≡ isBadValue (getD fs k [])
-  → some isBadValue fs ≡ true
+    → some isBadValue fs ≡ true
 unfolding some
 takes-bad fs values k t h e = sym (rw (fields-here fs k h, ← e) at (t .fine))
 
 pub takes-more : (fs : List (List ℕ)) (values : List ℕ) (k v : ℕ) → Takes fs values k → k < length fs → k < width
-  → false ≡ isBadValue (getD fs k []) → v ≡ valueOf (getD fs k []) → Takes fs (set values k v) (k + 1)
+    → false ≡ isBadValue (getD fs k []) → v ≡ valueOf (getD fs k []) → Takes fs (set values k v) (k + 1)
 unfolding some
 takes-more fs values k v t h l e q = record {
   long = length-set values k v ∙ t .long;
   done = λ j m. elim (split-bool (eqb j k)) [
-      inl s ↦ let z : j ≡ k = eqb-true j k s in rw (z, getD-set-same values k v 0 (let a = t .long in omega arith)) q
+    | inl s ↦ let z : j ≡ k = eqb-true j k s in rw (z, getD-set-same values k v 0 (let a = t .long in omega arith)) q
     | inr s ↦ let n = eqb-false j k s in rw (getD-set-other values k j v 0 n) (t .done j (omega arith))
-    ];
+  ];
   rest = λ j m. rw (getD-set-other values k j v 0 (λ (z : j ≡ k). omega arith)) (t .rest j (omega arith));
   fine = rw (fields-here fs k h, ← e) at (t .fine);
 }
@@ -132,13 +131,13 @@ takes-all fs values k t e l =
 
     at : (j : ℕ) → getD (list.map valueOf fs ++ replicate width 0) j 0 ≡ getD values j 0
     at j = elim (split-bool (ltb j k)) [
-        inl s ↦
+      | inl s ↦
           let h = ltb-true j k s in
           List·getD-append (list.map valueOf fs) (replicate width 0) 0 j (rw (map-length fs) (omega arith)) ∙ getD-map fs j (omega arith) ∙ sym (t .done j h)
       | inr s ↦
           let h = ltb-false j k s in
           append-zeros (list.map valueOf fs) width j (rw (map-length fs) (omega arith)) ∙ sym (t .rest j h)
-      ]
+    ]
 
 pub takes-fine : (fs : List (List ℕ)) (values : List ℕ) (k : ℕ) → Takes fs values k → length fs ≤ k → some isBadValue fs ≡ false
 unfolding some

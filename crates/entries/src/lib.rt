@@ -13,8 +13,11 @@ ghost use Rattle.declared.specs.Readings.{Inside};
 ghost use Rattle.entries.specs.Entries.{isBarred, valuesSaid, declaredAt, entryOf};
 
 pub const ROW_BYTES: usize = 128;
+
 const CR: u8 = 13;
+
 const LF: u8 = 10;
+
 const QUOTE: u8 = 34;
 
 // A row's event and values; or the number of its refusal, and zeros.
@@ -97,6 +100,12 @@ fn values_said(row: &[u8], f: rows::Fields, parameters: usize) -> Values
     Values { bad: false, values }
 }
 
+fn wide(x: u8) -> u64
+    ensures { λ r. ⌜ r ≡ x ⌝ }
+{
+    x as u64
+}
+
 fn refused(refusal: u8) -> Entry
     ensures { λ r. ⌜ r ≡ record { refusal = refusal; event = 0; values = lib.ListN.replicate 4 0 } ⌝ }
 {
@@ -108,7 +117,15 @@ fn refused(refusal: u8) -> Entry
 }
 
 // The event and values that a row says, for declarations whose event names stand in the text at these places.
-pub fn entry<'a, 'b, 'c>(text: &'a [u8], starts: &'b [usize; 16], sizes: &'b [usize; 16], sets: &'b [u8; 16], events: usize, parameters: usize, row: &'c [u8]) -> Entry
+pub fn read_row<'a, 'b, 'c>(
+    text: &'a [u8],
+    starts: &'b [usize; 16],
+    sizes: &'b [usize; 16],
+    sets: &'b [u8; 16],
+    events: usize,
+    parameters: usize,
+    row: &'c [u8],
+) -> Entry
     requires { ⌜ Inside (now text) (now starts) (now sizes) × ((events ≤ mostEvents) × (parameters ≤ 4)) ⌝ }
     ensures { λ r. ⌜ r ≡ entryOf (rowEvent (declaredAt (now (text .entry)) (now (starts .entry)) (now (sizes .entry)) (now (sets .entry)) events parameters) (now (row .entry))) ⌝ }
 {
@@ -132,7 +149,7 @@ pub fn entry<'a, 'b, 'c>(text: &'a [u8], starts: &'b [usize; 16], sizes: &'b [us
         return refused(refusals::BAD_VALUE);
     }
     let values = v.values;
-    if !combos::binds_exactly(sets[event] as u64, values) {
+    if !combos::binds_exactly(wide(sets[event]), values) {
         return refused(refusals::WRONG_FIELDS);
     }
     Entry {

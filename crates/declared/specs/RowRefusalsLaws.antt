@@ -1,17 +1,17 @@
 -- Laws of the refusals of a row of declarations: one for each test that the code makes, in the document's order 5, 2, 3, 4.
 -- Assumes nothing.
-use Prim.Native.Nat.{ℕ, zero, suc, _+_, _-_, _≤_, _<_}
-use mathlib.Core.Path.{_≡_, refl, sym, ap, _∙_}
+use Prim.Native.Nat.{ℕ, _+_, _-_, _≤_, _<_}
+use mathlib.Core.Path.{_≡_, refl, sym, _∙_}
 use mathlib.Core.Logic.{_⊎_, inl, inr}
-use mathlib.Core.Bool.{Bool, true, false, not, _&&_, _||_}
+use mathlib.Core.Bool.{Bool, true, false, not, _||_}
 use mathlib.Core.List.{List, [], _∷_, _++_}
-use lib.ListN.{length, getD, take, drop, length-drop}
+use lib.ListN.{length, drop, length-drop}
 use lib.Dec.{eqb, leb, ltb}
 use native.Mathlib.Omega.{arith}
 use borrow.Author.Tests.{eq-eqb, eqb-true, eqb-false, ne-eqb, leb-true, leb-false, le-leb, lt-leb, lt-ltb, le-ltb, not-true, not-false}
-use Rattle.document.specs.Lists.{every, among, repeated, placeOf, equal}
+use Rattle.document.specs.Lists.{every, repeated, placeOf, equal}
 use Rattle.document.specs.Limits.{width, mostEvents}
-use Rattle.document.specs.Refusals.{Refusal, badShape, badName, nameTwice, overLimits, number, Answer, taken, refused, refuseIf, refusalOf}
+use Rattle.document.specs.Refusals.{badShape, badName, nameTwice, overLimits, number, taken, refused, refuseIf, refusalOf}
 use Rattle.document.specs.RefusalsLaws.{none-refused}
 use Rattle.document.specs.Classes.{eventWord, epsilonWord}
 use Rattle.document.specs.Rows.{stray, fields, field}
@@ -19,7 +19,7 @@ use Rattle.document.specs.Declarations.{Declared, isName, isMark, setFrom, head
 use Rattle.rows.specs.declared.Fields.{Fields}
 use Rattle.rows.specs.RowsLaws.{split-bool}
 use Rattle.rows.specs.Split.{mostFields, Split}
-use Rattle.rows.specs.FieldsLaws.{Counts, split-counts, fields-some}
+use Rattle.rows.specs.FieldsLaws.{split-counts, fields-some}
 use Rattle.declared.specs.declared.Reading.{Reading}
 use Rattle.declared.specs.Readings.{namesAt, Placed, said}
 use Rattle.declared.specs.PlacesLaws.{names-length, among-place}
@@ -184,20 +184,21 @@ event-takes text t row p h =
     overLimits badShape badName nameTwice (rowAdds (said text t) row) (sym (rw (event-is text t row p) at h))
 
 -- and then there was a place for the event, and its fields are as many as the parameters and one
-pub event-fits : (text : List ℕ) (t : Reading) (row : List ℕ) → Placed text t → 0 ≡ refusalOf (eventRow (said text t) row) → t .events < mostEvents
-event-fits text t row p h = elim (split-bool (leb mostEvents (t .events))) [
+pub event-fits : (text : List ℕ) (t : Reading) (row : List ℕ) (q : ℕ) → Placed text t → q ≡ refusalOf (eventRow (said text t) row) → q ≡ 0
+    → t .events < mostEvents
+event-fits text t row q p h n = elim (split-bool (leb mostEvents (t .events))) [
   | inl e ↦ let z = rw (event-is text t row p, e) at h in absurd (omega arith)
   | inr e ↦ leb-false mostEvents (t .events) e
 ]
 
-pub event-fields : (text : List ℕ) (t : Reading) (row : List ℕ) (f : Fields) → Placed text t → Split row f
-    → 0 ≡ refusalOf (eventRow (said text t) row) → f .count ≤ mostFields
-event-fields text t row f p s h = elim (split-bool (eqb (f .count) (t .parameters + 1))) [
-  | inl e ↦ let q = eqb-true (f .count) (t .parameters + 1) e in let l = p .fewParameters in omega arith
+pub event-fields : (text : List ℕ) (t : Reading) (row : List ℕ) (f : Fields) (q : ℕ) → Placed text t → Split row f
+    → q ≡ refusalOf (eventRow (said text t) row) → q ≡ 0 → f .count ≤ mostFields
+event-fields text t row f q p s h n = elim (split-bool (eqb (f .count) (t .parameters + 1))) [
+  | inl e ↦ let v = eqb-true (f .count) (t .parameters + 1) e in let l = p .fewParameters in omega arith
   | inr e ↦ absurd (wrong (count-wrong text t row f p s (eqb-false (f .count) (t .parameters + 1) e)))
 ]
   where
-    none : (a : Bool) → 0 ≡ refusalOf {A = Declared} (refuseIf (a || true || not (every isMark (drop 1 (fields row)))) badShape
+    none : (a : Bool) → q ≡ refusalOf {A = Declared} (refuseIf (a || true || not (every isMark (drop 1 (fields row)))) badShape
         (refuseIf (not (isName (field row 0)) || equal (field row 0) epsilonWord) badName
         (refuseIf (ltb (placeOf (field row 0) (namesAt text (t .events) (t .starts) (t .sizes))) (t .events)) nameTwice
         (taken (rowAdds (said text t) row))))) → ⊥
@@ -205,7 +206,13 @@ event-fields text t row f p s h = elim (split-bool (eqb (f .count) (t .parameter
     none false z = omega arith
 
     wrong : eqb (length (drop 1 (fields row))) (t .parameters) ≡ false → ⊥
-    wrong q =
-        let k = event-fits text t row p h in
-        let z = rw (event-is text t row p, lt-leb mostEvents (t .events) k, q) at h in
+    wrong w =
+        let k = event-fits text t row q p h n in
+        let z = rw (event-is text t row p, lt-leb mostEvents (t .events) k, w) at h in
         none (stray row) z
+
+pub header-fields : (row : List ℕ) (f : Fields) → Split row f → 0 ≡ refusalOf (headerRow row) → f .count ≤ mostFields
+header-fields row f s h = elim (split-bool (leb (f .count) mostFields)) [
+  | inl e ↦ leb-true (f .count) mostFields e
+  | inr e ↦ let z = header-many row f s (leb-false (f .count) mostFields e) in absurd (omega arith)
+]
