@@ -1,0 +1,4 @@
+pub mod Readings
+pub mod NamesLaws
+pub mod FieldsLaws
+pub mod PlacesLaws
