@@ -123,6 +123,12 @@ pub fields-some : (row : List ℕ) → 1 ≤ length (fields row)
 unfolding parts
 fields-some row = rw (fields-length row, field-there row 0) (omega arith)
 
+pub split-some : (row : List ℕ) (f : Fields) → Split row f → 1 ≤ f .count
+split-some row f s = elim (split-bool (leb (f .count) mostFields)) [
+  | inl e ↦ let k = fields-some row in let c = split-counts row f s .few (leb-true (f .count) mostFields e) in omega arith
+  | inr e ↦ let c = leb-false (f .count) mostFields e in omega arith
+]
+
 -- each field is the part of the row that its place says
 pub split-at : (row : List ℕ) (f : Fields) (k : ℕ) → Split row f → k < f .count → f .count ≤ mostFields
     → take (getD (f .sizes) k 0) (drop (getD (f .starts) k 0) row) ≡ field row k

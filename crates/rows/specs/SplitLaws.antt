@@ -179,7 +179,7 @@ added-spans : (f : Fields) (p : Part) → length (added f p .sizes) ≡ length (
 unfolding added
 added-spans f p = elim (split-bool (leb mostFields (f .count))) [ inl e ↦ rw e | inr e ↦ rw e (length-set (f .sizes) (f .count) (p .size)) ]
 
-zero-at : (n k : ℕ) → _≡_ {A = ℕ} (getD (replicate n 0) k 0) 0
+pub zero-at : (n k : ℕ) → _≡_ {A = ℕ} (getD (replicate n 0) k 0) 0
 zero-at zero k = refl
 zero-at (suc n) zero = refl
 zero-at (suc n) (suc k) = zero-at n k
