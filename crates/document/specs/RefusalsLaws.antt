@@ -4,7 +4,7 @@ use Prim.Native.Nat.{ℕ, _≤_}
 use mathlib.Core.Path.{_≡_, refl}
 use mathlib.Core.Bool.{Bool, true, false}
 use native.Mathlib.Omega.{arith}
-use Rattle.document.specs.Refusals.{Refusal, textTooLong, badShape, badName, nameTwice, overLimits, notOfGrammar, undeclaredEvent, tooManyNames, tooDeep, tooManyStates, badProperty, badSession, noSuchEvent, wrongValues, noRoomForSeen, noRoomForKept, noRoomForReports, badRow, unknownEvent, badValue, wrongFields, headerDiffers, badLookup, offsetPastLog, textsDiffer, number, Answer, taken, refused, refuseIf, refusalOf}
+use Rattle.document.specs.Refusals.{Refusal, textTooLong, badShape, badName, nameTwice, overLimits, notOfGrammar, undeclaredEvent, tooManyNames, tooDeep, tooManyStates, badProperty, badSession, noSuchEvent, wrongValues, noRoomForSeen, noRoomForKept, noRoomForReports, badRow, unknownEvent, badValue, wrongFields, headerDiffers, badLookup, offsetPastLog, tableDiffers, number, Answer, taken, refused, refuseIf, refusalOf}
 
 pub number-some : (q : Refusal) → 1 ≤ number q
 number-some textTooLong = omega arith
@@ -31,7 +31,7 @@ number-some wrongFields = omega arith
 number-some headerDiffers = omega arith
 number-some badLookup = omega arith
 number-some offsetPastLog = omega arith
-number-some textsDiffer = omega arith
+number-some tableDiffers = omega arith
 
 -- where no test refuses, the value is taken
 pub none-refused : {A : Type 0} (a b c d : Bool) (p q r s : Refusal) (x : A)
