@@ -19,7 +19,7 @@ use Rattle.document.specs.Reading.{nextIs, past}
 use Rattle.rows.specs.RowsLaws.{drop-here, drop-end, split-bool}
 use Rattle.tokens.specs.declared.Token.{Token}
 use Rattle.tokens.specs.declared.Step.{Step}
-use Rattle.tokens.specs.Lexing.{kindOf, wordKind, endKind, shown, tokenHere, lexemesAt}
+use Rattle.tokens.specs.Lexing.{beginsKind, kindOf, wordKind, endKind, shown, tokenHere, lexemesAt}
 use Rattle.tokens.specs.Steps.{skipTo, Begins, Sort, Stands, Ended, Looks}
 use Rattle.tokens.specs.TokensLaws.{token-size, lexemes-token, lexemes-skip, lexemes-end, skip-begins}
 
@@ -146,8 +146,14 @@ module _ (s : List ℕ) (at : ℕ) (r : Step) (look : Looks s at r) where
       go noToken y z = omega arith
 
   -- a token that stands there is passed
-  pub step-here : (r .kind ≡ endKind → ⊥) → Stands s at r
+  step-here : (r .kind ≡ endKind → ⊥) → Stands s at r
   step-here e = ⊎-elim (λ z. absurd (e (z .kind))) (λ z. z) (look .what)
+
+  pub step-past : (r .kind ≡ endKind → ⊥) → at < r .next
+  step-past e = step-here e .past
+
+  pub step-fewer : (r .kind ≡ endKind → ⊥) → length (lexemesAt s (r .next)) < length (lexemesAt s at)
+  step-fewer e = rw (step-here e .tokens) (omega arith)
 
   pub mark-missing : (k : ℕ) → (r .kind ≡ k → ⊥) → nextIs (isMarkOf k) (lexemesAt s at) ≡ false
   mark-missing k e = ⊎-elim (λ z. rw (z .tokens)) (λ z. rw (z .tokens) (go (z .token) (z .kind))) (look .what)
@@ -158,14 +164,15 @@ module _ (s : List ℕ) (at : ℕ) (r : Step) (look : Looks s at r) where
       go (ask v) y = refl
       go noToken y = refl
 
-  pub atom-missing : (r .kind ≡ wordKind → ⊥) → (r .kind ≡ opening → ⊥) → nextIs beginsAtom (lexemesAt s at) ≡ false
-  atom-missing e h = ⊎-elim (λ z. rw (z .tokens)) (λ z. rw (z .tokens) (go (z .token) (z .kind))) (look .what)
+  pub atom-test : nextIs beginsAtom (lexemesAt s at) ≡ beginsKind (r .kind)
+  atom-test = ⊎-elim (λ z. rw (z .tokens, z .kind)) (λ z. rw (z .tokens, z .kind) (go (z .token) (z .sort))) (look .what)
     where
-      go : (x : doc.Token) → r .kind ≡ kindOf x → beginsAtom x ≡ false
-      go (word w) y = absurd (e y)
-      go (mark c) y = ne-eqb c opening (λ q. h (y ∙ q))
-      go (ask v) y = refl
-      go noToken y = refl
+      go : (x : doc.Token) → Sort (take (r .end - at) (drop at s)) x → beginsAtom x ≡ beginsKind (kindOf x)
+      go (word w) z = refl
+      go (mark c) z = rw (ne-eqb c wordKind (λ (q : c ≡ 0). omega arith))
+      go (ask v) (inl z) = rw z
+      go (ask v) (inr z) = rw z
+      go noToken z = refl
 
 -- the first of the tokens that are left stands at the place itself
 pub offset-here : (s : List ℕ) (at : ℕ) → Begins s at → offsetOf s (lexemesAt s at) ≡ at

@@ -5,7 +5,7 @@ ghost use Prim.Native.Nat.{ℕ, _+_, _≤_};
 ghost use lib.ListN.{length, drop};
 ghost use Rattle.document.specs.Lists.{startsWith, takeWhile};
 ghost use Rattle.document.specs.Classes.{isBlank};
-ghost use Rattle.tokens.specs.Lexing.{askHere, tokenHere};
+ghost use Rattle.tokens.specs.Lexing.{askHere, tokenHere, beginsKind};
 ghost use Rattle.tokens.specs.Steps.{Begins, Looks};
 
 // The kind of a mark is its class; the other kinds follow those numbers.
@@ -126,6 +126,16 @@ pub fn token_at(s: &[u8], at: usize) -> Token
         kind: class,
         end: next,
     }
+}
+
+// Whether a repetition can begin with a token of this kind: a name, `epsilon` or `(`.
+pub fn begins_atom(kind: u8) -> bool
+    ensures { λ r. ⌜ r ≡ beginsKind kind ⌝ }
+{
+    if kind == WORD {
+        return true;
+    }
+    kind == classes::OPENING
 }
 
 // The token at the place of one, and the place of the next: all that a reader of tokens asks of the text.
