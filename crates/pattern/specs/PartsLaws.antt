@@ -410,3 +410,22 @@ module _ (s : List ℕ) (at n d : ℕ) (text starts sizes : List ℕ) (events : 
   -- after an opening parenthesis
   pub ready-inside : (t : Step) → Looks s at t → d < mostOpen → Ready s (t .next) n (d + 1) text starts sizes events
   ready-inside t look l = record { begins = look .begins; few = ready .few; shallow = omega arith; inside = ready .inside; fewEvents = ready .fewEvents }
+
+pub begins-after : (reader : ℕ → ℕ → ℕ → List Lexeme → Reading) (k : ℕ) (s : List ℕ) (at n d : ℕ) (a : Part) → Answers reader k s at n d a → a .refusal ≡ 0 → Begins s (a .at)
+begins-after reader k s at n d a h z = h .goes .begins z
+
+-- The number that falls, from what is left of the text and the reader's kind.
+module _ (s : List ℕ) (at m : ℕ) where
+  pub falls-beside : (a : Part) → (length s - at) * 4 + 2 ≡ m → Goes s at a → a .refusal ≡ 0 → (length s - a .at) * 4 + 2 < m
+  falls-beside a e g z = let p = g .past z in let i = g .begins z .inside in omega arith
+
+  pub falls-bar : (a : Part) (t : Step) → (length s - at) * 4 + 3 ≡ m → Goes s at a → a .refusal ≡ 0 → Looks s (a .at) t → t .kind ≡ byte.bar
+      → (length s - t .next) * 4 + 3 < m
+  falls-bar a t e g z look k =
+      let p = g .past z in
+      let q = step-past s (a .at) t look (λ i. omega arith) in
+      let i = look .begins .inside in
+      omega arith
+
+  pub falls-inside : (t : Step) → (length s - at) * 4 + 0 ≡ m → Looks s at t → t .kind ≡ opening → (length s - t .next) * 4 + 3 < m
+  falls-inside t e look k = let q = step-past s at t look (λ i. omega arith) in let i = look .begins .inside in omega arith

@@ -1,3 +1,4 @@
+use Rattle.pattern.specs.PartsLaws.{alternative-refused, alternative-over, alternative-stopped, alternative-joined, atom-missing, atom-deep, atom-stopped, atom-open, atom-closed, repetition-refused, repetition-marked, sequence-refused, sequence-over, sequence-stopped, sequence-joined, begins-after, ready-after, ready-past, ready-inside, falls-beside, falls-bar, falls-inside}
 use Prim.Native.Nat.{ℕ, _≤_, _+_, _-_, _*_, _<_}
 use mathlib.Core.Path.{_≡_, refl, sym, ap, _∙_}
 use mathlib.Core.Logic.{⊎-elim}
@@ -30,16 +31,16 @@ use Rattle.pattern.proofs.+alternative+atom+repetition+sequence.{statem
 use Rattle.pattern.proofs.+alternative+atom+repetition+sequence.Tie.{close}
 
 abbrev μ-alternative : Measures 3 alternative-kinds.ps ℕ
-μ-alternative κs a = ?measure-alternative
+μ-alternative κs a = (length (a .0 .now) - a .1 .0) * 4 + 3
 
 abbrev μ-atom : Measures 3 atom-kinds.ps ℕ
-μ-atom κs a = ?measure-atom
+μ-atom κs a = (length (a .0 .now) - a .1 .0) * 4 + 0
 
 abbrev μ-repetition : Measures 3 repetition-kinds.ps ℕ
-μ-repetition κs a = ?measure-repetition
+μ-repetition κs a = (length (a .0 .now) - a .1 .0) * 4 + 1
 
 abbrev μ-sequence : Measures 3 sequence-kinds.ps ℕ
-μ-sequence κs a = ?measure-sequence
+μ-sequence κs a = (length (a .0 .now) - a .1 .0) * 4 + 2
 
 abbrev alternative-at : ℕ → In 3 alternative-kinds.ps
 alternative-at t =
@@ -81,7 +82,7 @@ alternative-sequence-requires : (t : ℕ) → alternative-lts.Need-sequence-requ
   alternative-reads.Asked,
   alternative-reads.Learnt,
 ) (alternative-at t) alternative.Post
-alternative-sequence-requires t c κs = search needs
+alternative-sequence-requires t c κs = (omega arith, search needs)
 
 -- src/lib.rt:194:9
 alternative-returns : (t : ℕ) → alternative-lts.Need-returns (
@@ -94,7 +95,7 @@ alternative-returns : (t : ℕ) → alternative-lts.Need-returns (
   alternative-reads.Asked,
   alternative-reads.Learnt,
 ) (alternative-at t) alternative.Post
-alternative-returns t c = ?alternative-returns
+alternative-returns t c = search (needs, alternative-refused)
 
 -- src/lib.rt:196:9
 alternative-look-requires : (t : ℕ) → alternative-lts.Need-look-requires (
@@ -107,7 +108,7 @@ alternative-look-requires : (t : ℕ) → alternative-lts.Need-look-requires (
   alternative-reads.Asked,
   alternative-reads.Learnt,
 ) (alternative-at t) alternative.Post
-alternative-look-requires t c κs = search needs
+alternative-look-requires t c κs = search (needs, begins-after)
 
 -- src/lib.rt:198:9
 alternative-returns-2 : (t : ℕ) → alternative-lts.Need-returns-2 (
@@ -120,7 +121,8 @@ alternative-returns-2 : (t : ℕ) → alternative-lts.Need-returns-2 (
   alternative-reads.Asked,
   alternative-reads.Learnt,
 ) (alternative-at t) alternative.Post
-alternative-returns-2 t c = ?alternative-returns-2
+alternative-returns-2 t c =
+    alternative-over _ _ _ _ _ _ (c .before .before .before .before .before .sequence .ensures) _ (search needs) (c .before .before .look .ensures) (c .if2 .taken)
 
 -- src/lib.rt:200:9
 alternative-alternative-requires : (t : ℕ) → alternative-lts.Need-alternative-requires (
@@ -133,7 +135,7 @@ alternative-alternative-requires : (t : ℕ) → alternative-lts.Need-alternativ
   alternative-reads.Asked,
   alternative-reads.Learnt,
 ) (alternative-at t) alternative.Post
-alternative-alternative-requires t c κs = search needs
+alternative-alternative-requires t c κs = (search (needs, falls-bar), search (needs, ready-past))
 
 -- src/lib.rt:202:9
 alternative-returns-3 : (t : ℕ) → alternative-lts.Need-returns-3 (
@@ -146,7 +148,7 @@ alternative-returns-3 : (t : ℕ) → alternative-lts.Need-returns-3 (
   alternative-reads.Asked,
   alternative-reads.Learnt,
 ) (alternative-at t) alternative.Post
-alternative-returns-3 t c = ?alternative-returns-3
+alternative-returns-3 t c = search (needs, alternative-stopped)
 
 -- src/lib.rt:206:9
 alternative-alternative-requires-2 : (t : ℕ) → alternative-lts.Need-alternative-requires-2 (
@@ -172,7 +174,7 @@ alternative-returns-4 : (t : ℕ) → alternative-lts.Need-returns-4 (
   alternative-reads.Asked,
   alternative-reads.Learnt,
 ) (alternative-at t) alternative.Post
-alternative-returns-4 t c = ?alternative-returns-4
+alternative-returns-4 t c = search (needs, alternative-joined)
 
 -- src/lib.rt:120:9
 atom-look-requires : (t : ℕ) → atom-lts.Need-look-requires (
@@ -211,7 +213,7 @@ atom-returns : (t : ℕ) → atom-lts.Need-returns (
   alternative-below t,
   alternative.Post,
 ) (atom-at t) atom.Post
-atom-returns t c = ?atom-returns
+atom-returns t c = search needs
 
 -- src/lib.rt:125:9
 atom-refused-at-requires : (t : ℕ) → atom-lts.Need-refused-at-requires (
@@ -237,7 +239,7 @@ atom-returns-2 : (t : ℕ) → atom-lts.Need-returns-2 (
   alternative-below t,
   alternative.Post,
 ) (atom-at t) atom.Post
-atom-returns-2 t c = ?atom-returns-2
+atom-returns-2 t c = search (needs, atom-missing)
 
 -- src/lib.rt:128:9
 atom-refused-at-requires-2 : (t : ℕ) → atom-lts.Need-refused-at-requires-2 (
@@ -263,7 +265,7 @@ atom-returns-3 : (t : ℕ) → atom-lts.Need-returns-3 (
   alternative-below t,
   alternative.Post,
 ) (atom-at t) atom.Post
-atom-returns-3 t c = ?atom-returns-3
+atom-returns-3 t c = search (needs, atom-deep)
 
 -- src/lib.rt:130:46
 atom-add-alternative : (t : ℕ) → atom-lts.Need-add-alternative (
@@ -289,7 +291,7 @@ atom-alternative-requires : (t : ℕ) → atom-lts.Need-alternative-requires (
   alternative-below t,
   alternative.Post,
 ) (atom-at t) atom.Post
-atom-alternative-requires t c κs = search needs
+atom-alternative-requires t c κs = (search (needs, falls-inside), search (needs, ready-inside))
 
 -- src/lib.rt:132:9
 atom-returns-4 : (t : ℕ) → atom-lts.Need-returns-4 (
@@ -302,7 +304,7 @@ atom-returns-4 : (t : ℕ) → atom-lts.Need-returns-4 (
   alternative-below t,
   alternative.Post,
 ) (atom-at t) atom.Post
-atom-returns-4 t c = ?atom-returns-4
+atom-returns-4 t c = search (needs, atom-stopped)
 
 -- src/lib.rt:134:9
 atom-look-requires-2 : (t : ℕ) → atom-lts.Need-look-requires-2 (
@@ -315,7 +317,7 @@ atom-look-requires-2 : (t : ℕ) → atom-lts.Need-look-requires-2 (
   alternative-below t,
   alternative.Post,
 ) (atom-at t) atom.Post
-atom-look-requires-2 t c κs = search needs
+atom-look-requires-2 t c κs = search (needs, begins-after)
 
 -- src/lib.rt:136:9
 atom-refused-at-requires-3 : (t : ℕ) → atom-lts.Need-refused-at-requires-3 (
@@ -341,7 +343,7 @@ atom-returns-5 : (t : ℕ) → atom-lts.Need-returns-5 (
   alternative-below t,
   alternative.Post,
 ) (atom-at t) atom.Post
-atom-returns-5 t c = ?atom-returns-5
+atom-returns-5 t c = search (needs, atom-open)
 
 -- src/lib.rt:116:1
 atom-returns-6 : (t : ℕ) → atom-lts.Need-returns-6 (
@@ -354,7 +356,7 @@ atom-returns-6 : (t : ℕ) → atom-lts.Need-returns-6 (
   alternative-below t,
   alternative.Post,
 ) (atom-at t) atom.Post
-atom-returns-6 t c = ?atom-returns-6
+atom-returns-6 t c = search (needs, atom-closed)
 
 -- src/lib.rt:152:9
 repetition-atom-requires : (t : ℕ) → repetition-lts.Need-atom-requires (
@@ -363,7 +365,7 @@ repetition-atom-requires : (t : ℕ) → repetition-lts.Need-atom-requires (
   marks-reads.Asked,
   marks-reads.Learnt,
 ) (repetition-at t) repetition.Post
-repetition-atom-requires t c κs = search needs
+repetition-atom-requires t c κs = (omega arith, search needs)
 
 -- src/lib.rt:154:9
 repetition-returns : (t : ℕ) → repetition-lts.Need-returns (
@@ -372,7 +374,7 @@ repetition-returns : (t : ℕ) → repetition-lts.Need-returns (
   marks-reads.Asked,
   marks-reads.Learnt,
 ) (repetition-at t) repetition.Post
-repetition-returns t c = ?repetition-returns
+repetition-returns t c = search (needs, repetition-refused)
 
 -- src/lib.rt:156:5
 repetition-marks-requires : (t : ℕ) → repetition-lts.Need-marks-requires (
@@ -381,7 +383,7 @@ repetition-marks-requires : (t : ℕ) → repetition-lts.Need-marks-requires (
   marks-reads.Asked,
   marks-reads.Learnt,
 ) (repetition-at t) repetition.Post
-repetition-marks-requires t c κs = search needs
+repetition-marks-requires t c κs = (search needs, search (needs, begins-after))
 
 -- src/lib.rt:148:1
 repetition-returns-2 : (t : ℕ) → repetition-lts.Need-returns-2 (
@@ -390,7 +392,7 @@ repetition-returns-2 : (t : ℕ) → repetition-lts.Need-returns-2 (
   marks-reads.Asked,
   marks-reads.Learnt,
 ) (repetition-at t) repetition.Post
-repetition-returns-2 t c = ?repetition-returns-2
+repetition-returns-2 t c = search (needs, repetition-marked)
 
 -- src/lib.rt:164:9
 sequence-repetition-requires : (t : ℕ) → sequence-lts.Need-repetition-requires (
@@ -405,7 +407,7 @@ sequence-repetition-requires : (t : ℕ) → sequence-lts.Need-repetition-requir
   sequence-reads.Asked,
   sequence-reads.Learnt,
 ) (sequence-at t) sequence.Post
-sequence-repetition-requires t c κs = search needs
+sequence-repetition-requires t c κs = (omega arith, search needs)
 
 -- src/lib.rt:166:9
 sequence-returns : (t : ℕ) → sequence-lts.Need-returns (
@@ -420,7 +422,7 @@ sequence-returns : (t : ℕ) → sequence-lts.Need-returns (
   sequence-reads.Asked,
   sequence-reads.Learnt,
 ) (sequence-at t) sequence.Post
-sequence-returns t c = ?sequence-returns
+sequence-returns t c = search (needs, sequence-refused)
 
 -- src/lib.rt:168:9
 sequence-look-requires : (t : ℕ) → sequence-lts.Need-look-requires (
@@ -435,7 +437,7 @@ sequence-look-requires : (t : ℕ) → sequence-lts.Need-look-requires (
   sequence-reads.Asked,
   sequence-reads.Learnt,
 ) (sequence-at t) sequence.Post
-sequence-look-requires t c κs = search needs
+sequence-look-requires t c κs = search (needs, begins-after)
 
 -- src/lib.rt:169:9
 sequence-begins-atom-requires : (t : ℕ) → sequence-lts.Need-begins-atom-requires (
@@ -465,7 +467,7 @@ sequence-returns-2 : (t : ℕ) → sequence-lts.Need-returns-2 (
   sequence-reads.Asked,
   sequence-reads.Learnt,
 ) (sequence-at t) sequence.Post
-sequence-returns-2 t c = ?sequence-returns-2
+sequence-returns-2 t c = search (needs, sequence-over)
 
 -- src/lib.rt:172:9
 sequence-sequence-requires : (t : ℕ) → sequence-lts.Need-sequence-requires (
@@ -480,7 +482,7 @@ sequence-sequence-requires : (t : ℕ) → sequence-lts.Need-sequence-requires (
   sequence-reads.Asked,
   sequence-reads.Learnt,
 ) (sequence-at t) sequence.Post
-sequence-sequence-requires t c κs = search needs
+sequence-sequence-requires t c κs = (search (needs, falls-beside), search (needs, ready-after))
 
 -- src/lib.rt:174:9
 sequence-returns-3 : (t : ℕ) → sequence-lts.Need-returns-3 (
@@ -495,7 +497,7 @@ sequence-returns-3 : (t : ℕ) → sequence-lts.Need-returns-3 (
   sequence-reads.Asked,
   sequence-reads.Learnt,
 ) (sequence-at t) sequence.Post
-sequence-returns-3 t c = ?sequence-returns-3
+sequence-returns-3 t c = search (needs, sequence-stopped)
 
 -- src/lib.rt:178:9
 sequence-sequence-requires-2 : (t : ℕ) → sequence-lts.Need-sequence-requires-2 (
@@ -525,7 +527,7 @@ sequence-returns-4 : (t : ℕ) → sequence-lts.Need-returns-4 (
   sequence-reads.Asked,
   sequence-reads.Learnt,
 ) (sequence-at t) sequence.Post
-sequence-returns-4 t c = ?sequence-returns-4
+sequence-returns-4 t c = search (needs, sequence-joined)
 
 pub +alternative+atom+repetition+sequence-spec : {M : Type 1} → statement M
 +alternative+atom+repetition+sequence-spec =
