@@ -6,11 +6,14 @@ ghost use mathlib.Core.Path.{_≡_};
 ghost use Prim.Native.Nat.{ℕ, _≤_, _<_};
 ghost use lib.ListN.{length};
 ghost use Rattle.document.specs.Limits.{mostEvents};
-ghost use Rattle.document.specs.Reading.{readAlternative, readSequence, readRepetition, readAtom};
+ghost use Rattle.document.specs.Classes.{ereWord};
+ghost use Rattle.document.specs.Tokens.{isWordOf};
+ghost use Rattle.document.specs.Reading.{parse, nextIs, readAlternative, readSequence, readRepetition, readAtom};
 ghost use Rattle.declared.specs.Readings.{namesAt, Inside};
-ghost use Rattle.tokens.specs.Lexing.{wordKind};
+ghost use Rattle.tokens.specs.Lexing.{wordKind, lexemesAt};
 ghost use Rattle.tokens.specs.Steps.{Begins, Looks};
 ghost use Rattle.pattern.specs.Parts.{Ready, Answers, Marked, refusedAt};
+ghost use Rattle.pattern.specs.Texts.{askedBy, refusedText, takenText, parsedOf, Asks};
 
 // Limits of document 01: event names in a pattern, open parentheses.
 pub const MOST_NAMES: usize = 31;
@@ -18,11 +21,13 @@ pub const MOST_NAMES: usize = 31;
 pub const MOST_OPEN: usize = 16;
 
 // The verdicts asked for are a set: bit 0 for match, bit 1 for fail.
-const ASKED_MATCH: u8 = 1;
+const NONE_ASKED: u8 = 0;
 
-const ASKED_FAIL: u8 = 2;
+const MATCH_ASKED: u8 = 1;
 
-const ASKED_BOTH: u8 = 3;
+const FAIL_ASKED: u8 = 2;
+
+const BOTH_ASKED: u8 = 3;
 
 // What a reader answers: a refusal's number and its place; or the place of the next token, how many event names were read up
 // to there, and the shape of what was read.
@@ -33,13 +38,11 @@ pub struct Part {
     pub shape: sets::Shape,
 }
 
-// What a pattern text says: a refusal's number and its offset; or the verdicts asked for, the number of event names, and the
-// shape of the pattern.
+// What a pattern text says: a refusal's number and its offset; or the verdicts asked for and the shape of the pattern.
 pub struct Parsed {
     pub refusal: u8,
     pub at: usize,
     pub asked: u8,
-    pub names: usize,
     pub shape: sets::Shape,
 }
 
@@ -210,4 +213,98 @@ pub fn alternative<'a, 'b, 'c>(text: &'a [u8], at: usize, names: usize, depth: u
         names: b.names,
         shape,
     }
+}
+
+fn refused_text(refusal: u8, at: usize) -> Parsed
+    ensures { λ r. ⌜ r ≡ refusedText refusal at ⌝ }
+{
+    let shape = sets::empty();
+    Parsed {
+        refusal,
+        at,
+        asked: NONE_ASKED,
+        shape,
+    }
+}
+
+fn taken_text(asked: u8, a: Part) -> Parsed
+    ensures { λ r. ⌜ r ≡ takenText asked (a .shape) ⌝ }
+{
+    let shape = a.shape;
+    Parsed {
+        refusal: refusals::TAKEN,
+        at: 0,
+        asked,
+        shape,
+    }
+}
+
+// Whether the token at a place is `ere`.
+fn is_ere(text: &[u8], at: usize, t: tokens::Step) -> bool
+    requires { ⌜ Looks (now text) at t ⌝ }
+    ensures { λ r. ⌜ r ≡ nextIs (isWordOf ereWord) (lexemesAt (now (text .entry)) at) ⌝ }
+{
+    if t.kind != tokens::WORD {
+        return false;
+    }
+    let end = t.end;
+    rows::same(&text[at..end], b"ere")
+}
+
+// The verdict that a token of this kind asks for.
+fn asked_by(kind: u8) -> u8
+    ensures { λ r. ⌜ r ≡ askedBy kind ⌝ }
+{
+    if kind == tokens::ASK_MATCH {
+        return MATCH_ASKED;
+    }
+    if kind == tokens::ASK_FAIL {
+        return FAIL_ASKED;
+    }
+    NONE_ASKED
+}
+
+// After the pattern: `@match`, `@fail` or both, each once, in either order, and nothing more.
+fn asks(text: &[u8], a: Part) -> Parsed
+    requires { ⌜ Begins (now text) (a .at) ⌝ }
+    ensures { λ r. ⌜ Asks (now (text .entry)) a r ⌝ }
+{
+    let t = tokens::look(text, a.at);
+    let first = asked_by(t.kind);
+    if first == NONE_ASKED {
+        return refused_text(refusals::NOT_OF_GRAMMAR, a.at);
+    }
+    if text.len() <= t.next {
+        return taken_text(first, a);
+    }
+    let u = tokens::look(text, t.next);
+    let second = asked_by(u.kind);
+    if first + second != BOTH_ASKED {
+        return refused_text(refusals::NOT_OF_GRAMMAR, t.next);
+    }
+    if u.next < text.len() {
+        return refused_text(refusals::NOT_OF_GRAMMAR, u.next);
+    }
+    taken_text(BOTH_ASKED, a)
+}
+
+// A whole pattern text: `ere`, `:`, an alternative, and the verdicts asked for.
+pub fn parse<'a, 'b, 'c>(text: &'a [u8], declarations: &'b [u8], starts: &'c [usize; 16], sizes: &'c [usize; 16], events: usize) -> Parsed
+    requires { ⌜ Inside (now declarations) (now starts) (now sizes) × (events ≤ mostEvents) ⌝ }
+    ensures { λ r. ⌜ r ≡ parsedOf (parse (namesAt (now (declarations .entry)) events (now (starts .entry)) (now (sizes .entry))) (now (text .entry))) ⌝ }
+{
+    let start = tokens::skip(text, 0);
+    let ere = tokens::look(text, start);
+    if !is_ere(text, start, ere) {
+        return refused_text(refusals::NOT_OF_GRAMMAR, start);
+    }
+    let colon = tokens::look(text, ere.next);
+    if colon.kind != classes::COLON {
+        return refused_text(refusals::NOT_OF_GRAMMAR, ere.next);
+    }
+    let a = alternative(text, colon.next, 0, 0, declarations, starts, sizes, events);
+    if a.refusal != refusals::TAKEN {
+        return refused_text(a.refusal, a.at);
+    }
+    asks(text, a)
 }

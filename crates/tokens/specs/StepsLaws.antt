@@ -146,7 +146,7 @@ module _ (s : List ℕ) (at : ℕ) (r : Step) (look : Looks s at r) where
       go noToken y z = omega arith
 
   -- a token that stands there is passed
-  step-here : (r .kind ≡ endKind → ⊥) → Stands s at r
+  pub step-here : (r .kind ≡ endKind → ⊥) → Stands s at r
   step-here e = ⊎-elim (λ z. absurd (e (z .kind))) (λ z. z) (look .what)
 
   pub step-past : (r .kind ≡ endKind → ⊥) → at < r .next
