@@ -2,6 +2,7 @@ pub mod Readings
 pub mod NamesLaws
 pub mod FieldsLaws
 pub mod PlacesLaws
-pub mod RefusalLaws
-pub mod ReadLaws
-pub mod WholeLaws
+pub mod RowRefusalsLaws
+pub mod RowReadsLaws
+pub mod TextReadsLaws
+pub mod ReadingsLaws

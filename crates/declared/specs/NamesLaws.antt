@@ -1,23 +1,20 @@
 -- Laws of names: where a run of name bytes ends, what makes a name, and where a name stands among others, as the loops over
 -- them meet it.
 -- Assumes nothing.
-use Prim.Native.Nat.{ℕ, zero, suc, _+_, _-_, _≤_, _<_}
+use Prim.Native.Nat.{ℕ, suc, _+_, _-_, _≤_, _<_}
 use mathlib.Core.Path.{_≡_, refl, sym, ap, _∙_}
-use mathlib.Core.Logic.{_⊎_, inl, inr}
-use mathlib.Core.Bool.{Bool, true, false, not, cond, _&&_, _||_, and-false}
-use mathlib.Core.List.{List, [], _∷_, _++_}
-use lib.ListN.{length, getD, take, drop, length-drop, drop-of-length-le}
-use lib.Seq.{drop-cons}
-use lib.Dec.{eqb, leb, ltb, eqb·suc-suc, eqb·zero-suc}
+use mathlib.Core.Logic.{inl, inr}
+use mathlib.Core.Bool.{Bool, true, false, not, _&&_}
+use mathlib.Core.List.{List, [], _∷_}
+use lib.ListN.{length, getD, take, drop, length-drop}
+use lib.Dec.{eqb, leb, eqb·suc-suc, eqb·zero-suc}
 use native.Mathlib.Omega.{arith}
-use native.Mathlib.Numerals.{add-one}
-use borrow.Author.Tests.{eq-eqb, ne-eqb, le-leb, lt-leb, lt-ltb, le-ltb, not-true, not-false}
-use Rattle.document.specs.Lists.{every, some, among, placeOf, equal, takeWhile, tabulate}
-use Rattle.document.specs.Limits.{nameBytes, mostEvents}
-use Rattle.document.specs.Classes.{classOf, letter, isLetter, isNameByte, zeroByte, oneByte}
+use borrow.Author.Tests.{le-leb, lt-leb, not-true, not-false}
+use Rattle.document.specs.Lists.{every, among, equal, takeWhile}
+use Rattle.document.specs.Limits.{nameBytes}
+use Rattle.document.specs.Classes.{letter, isLetter, isNameByte, zeroByte, oneByte}
 use Rattle.document.specs.Declarations.{isName, isMark, nameRun, nameAt}
 use Rattle.rows.specs.RowsLaws.{drop-here, drop-end, split-bool}
-use Rattle.declared.specs.Readings.{namesAt, Inside}
 
 -- the longest part at the start whose members pass a test: at none, at one that passes, at one that does not
 run-stops : (p : ℕ → Bool) (s : List ℕ) (i : ℕ) → i < length s → p (getD s i 0) ≡ false → takeWhile p (drop i s) ≡ []
@@ -100,7 +97,7 @@ name-rest f end d h l e n q =
     let k : end ≡ suc (length (takeWhile isNameByte (drop 1 f))) = omega arith in
     let j : length f ≡ suc (length (drop 1 f)) = rw length-drop (omega arith) in
     let a : eqb end (length f) ≡ every isNameByte (drop 1 f) =
-        rw k (ap (eqb (suc (length (takeWhile isNameByte (drop 1 f))))) j ∙ eqb·suc-suc (length (takeWhile isNameByte (drop 1 f))) (length (drop 1 f)) ∙ run-all isNameByte (drop 1 f)) in
+    rw k (ap (eqb (suc (length (takeWhile isNameByte (drop 1 f))))) j ∙ eqb·suc-suc (length (takeWhile isNameByte (drop 1 f))) (length (drop 1 f)) ∙ run-all isNameByte (drop 1 f)) in
     a ∙ sym (name-is f h ∙ rw (sym e ∙ not-false d n, le-leb (length f) nameBytes l) (whole (every isNameByte (drop 1 f))))
   where
     whole : (x : Bool) → (true && x && true) ≡ x

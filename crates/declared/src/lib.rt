@@ -200,7 +200,13 @@ fn header_refusal(row: &[u8], f: rows::Fields) -> u8
 
 // Where a name stands first among those at the first places of the text, or their number where it is none of them.
 // `same` compares lengths before bytes, so that most names cost one comparison.
-pub fn find<'a, 'b, 'c>(text: &'a [u8], starts: &'b [usize; MOST_EVENTS], sizes: &'b [usize; MOST_EVENTS], count: usize, name: &'c [u8]) -> usize
+pub fn find<'a, 'b, 'c>(
+    text: &'a [u8],
+    starts: &'b [usize; MOST_EVENTS],
+    sizes: &'b [usize; MOST_EVENTS],
+    count: usize,
+    name: &'c [u8],
+) -> usize
     requires { ⌜ Inside (now text) (now starts) (now sizes) × (count ≤ mostEvents) ⌝ }
     ensures { λ r. ⌜ r ≡ placeOf (now (name .entry)) (namesAt (now (text .entry)) count (now (starts .entry)) (now (sizes .entry))) ⌝ }
 {

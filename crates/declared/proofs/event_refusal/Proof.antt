@@ -1,13 +1,13 @@
 -- `declared::event_refusal` meets its contract: each test that led to a return decides the refusal.
 -- Assumes nothing.
-use Rattle.declared.specs.RefusalLaws.{event-many, event-stray, event-count, event-marks, event-name, event-epsilon, event-twice, event-taken}
+use Rattle.declared.specs.RowRefusalsLaws.{event-many, event-stray, event-count, event-marks, event-name, event-epsilon, event-twice, event-taken}
 use Prim.Native.Nat.{_-_}
 use borrow.Author.Needs.{needs}
 use Rattle.declared.proofs.event_refusal.Statement.{statement}
 use Rattle.declared.proofs.event_refusal.Tie as tie
 
 returns : tie.Need-returns
-returns c = search (needs, event-many)
+returns c = event-many _ _ _ (c .before .before .before .before .pre .0) (search needs)
 
 has-stray-requires : tie.Need-has-stray-requires
 has-stray-requires c κs = search needs

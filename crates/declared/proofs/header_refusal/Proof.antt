@@ -1,6 +1,6 @@
 -- `declared::header_refusal` meets its contract: each test that led to a return decides the refusal.
 -- Assumes nothing.
-use Rattle.declared.specs.RefusalLaws.{header-many, header-stray, header-word, header-names, header-twice, header-taken}
+use Rattle.declared.specs.RowRefusalsLaws.{header-many, header-stray, header-word, header-names, header-twice, header-taken}
 use Prim.Native.Nat.{_-_}
 use borrow.Author.Needs.{needs}
 use Rattle.declared.proofs.header_refusal.Statement.{statement}

@@ -10,7 +10,7 @@ returns : tie.Need-returns
 returns c = search (needs, name-empty)
 
 returns-2 : tie.Need-returns-2
-returns-2 c = search (needs, name-long)
+returns-2 c = name-long _ (c .before .if1 .left) (search needs)
 
 shared-slice-read-is-letter : tie.Need-shared-slice-read-is-letter
 shared-slice-read-is-letter c = search needs

@@ -2,8 +2,8 @@
 -- Assumes nothing.
 use native.Mathlib.Omega.{arith}
 use Rattle.rows.specs.TextLaws.{row-within}
-use Rattle.declared.specs.RefusalLaws.{event-fits, event-fields}
-use Rattle.declared.specs.ReadLaws.{field-inside, row-refused, row-taken}
+use Rattle.declared.specs.RowRefusalsLaws.{event-fits, event-fields}
+use Rattle.declared.specs.RowReadsLaws.{field-inside, row-refused, row-taken}
 use Prim.Native.Nat.{_-_}
 use borrow.Author.Needs.{needs}
 use Rattle.declared.proofs.with_row.Statement.{statement}

@@ -1,17 +1,17 @@
 -- Laws of the refusals of a row of declarations: one for each test that the code makes, in the document's order 5, 2, 3, 4.
 -- Assumes nothing.
-use Prim.Native.Nat.{ℕ, zero, suc, _+_, _-_, _≤_, _<_}
-use mathlib.Core.Path.{_≡_, refl, sym, ap, _∙_}
+use Prim.Native.Nat.{ℕ, _+_, _-_, _≤_, _<_}
+use mathlib.Core.Path.{_≡_, refl, sym, _∙_}
 use mathlib.Core.Logic.{_⊎_, inl, inr}
-use mathlib.Core.Bool.{Bool, true, false, not, _&&_, _||_}
+use mathlib.Core.Bool.{Bool, true, false, not, _||_}
 use mathlib.Core.List.{List, [], _∷_, _++_}
-use lib.ListN.{length, getD, take, drop, length-drop}
+use lib.ListN.{length, drop, length-drop}
 use lib.Dec.{eqb, leb, ltb}
 use native.Mathlib.Omega.{arith}
 use borrow.Author.Tests.{eq-eqb, eqb-true, eqb-false, ne-eqb, leb-true, leb-false, le-leb, lt-leb, lt-ltb, le-ltb, not-true, not-false}
-use Rattle.document.specs.Lists.{every, among, repeated, placeOf, equal}
+use Rattle.document.specs.Lists.{every, repeated, placeOf, equal}
 use Rattle.document.specs.Limits.{width, mostEvents}
-use Rattle.document.specs.Refusals.{Refusal, badShape, badName, nameTwice, overLimits, number, Answer, taken, refused, refuseIf, refusalOf}
+use Rattle.document.specs.Refusals.{badShape, badName, nameTwice, overLimits, number, taken, refused, refuseIf, refusalOf}
 use Rattle.document.specs.RefusalsLaws.{none-refused}
 use Rattle.document.specs.Classes.{eventWord, epsilonWord}
 use Rattle.document.specs.Rows.{stray, fields, field}
@@ -19,7 +19,7 @@ use Rattle.document.specs.Declarations.{Declared, isName, isMark, setFrom, head
 use Rattle.rows.specs.declared.Fields.{Fields}
 use Rattle.rows.specs.RowsLaws.{split-bool}
 use Rattle.rows.specs.Split.{mostFields, Split}
-use Rattle.rows.specs.FieldsLaws.{Counts, split-counts, fields-some}
+use Rattle.rows.specs.FieldsLaws.{split-counts, fields-some}
 use Rattle.declared.specs.declared.Reading.{Reading}
 use Rattle.declared.specs.Readings.{namesAt, Placed, said}
 use Rattle.declared.specs.PlacesLaws.{names-length, among-place}

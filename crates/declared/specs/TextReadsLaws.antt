@@ -1,13 +1,11 @@
 -- Laws of reading the whole text: the header, then event after event, then the end.
 -- Assumes nothing.
-use Prim.Native.Nat.{ℕ, zero, suc, _+_, _-_, _≤_, _<_}
-use mathlib.Core.Path.{_≡_, refl, sym, ap, ap₂, _∙_}
-use mathlib.Core.Logic.{_⊎_, inl, inr}
-use mathlib.Core.Bool.{Bool, true, false}
-use mathlib.Core.List.{List, [], _∷_, _++_}
-use lib.ListN.{length, getD, take, drop, replicate, take-append-drop, length-drop}
+use Prim.Native.Nat.{ℕ, _+_, _-_, _≤_, _<_}
+use mathlib.Core.Path.{_≡_, refl, sym, ap, _∙_}
+use mathlib.Core.List.{List, [], _∷_}
+use lib.ListN.{length, take, drop, replicate, take-append-drop, length-drop}
 use lib.Seq.{length-take-le}
-use lib.Dec.{eqb, ltb}
+use lib.Dec.{eqb}
 use native.Mathlib.Omega.{arith}
 use borrow.Author.Tests.{eq-eqb, ne-eqb, lt-ltb, le-ltb}
 use Rattle.document.specs.Limits.{width, textBytes, mostEvents}
@@ -18,13 +16,13 @@ use Rattle.document.specs.Log.{nextAt}
 use Rattle.document.specs.Declarations.{Declared, headerRow, eventRow, eventRows, noEvents, declarations}
 use Rattle.rows.specs.declared.Fields.{Fields}
 use Rattle.rows.specs.TextLaws.{row-part, rows-over, rows-next, drop-next, next-later}
-use Rattle.rows.specs.Split.{mostFields, Split}
+use Rattle.rows.specs.Split.{Split}
 use Rattle.rows.specs.SplitLaws.{zero-at}
 use Rattle.rows.specs.FieldsLaws.{split-counts}
 use Rattle.declared.specs.declared.Reading.{Reading}
-use Rattle.declared.specs.Readings.{padded, namesAt, Inside, Stands, ReadAs, Reads, Placed, said, noneRead, RowAs, RowReads}
+use Rattle.declared.specs.Readings.{padded, Stands, ReadAs, Reads, Placed, said, noneRead, RowAs, RowReads}
 use Rattle.declared.specs.PlacesLaws.{names-length, names-none}
-use Rattle.declared.specs.RefusalLaws.{header-takes, header-fields}
+use Rattle.declared.specs.RowRefusalsLaws.{header-takes, header-fields}
 
 -- the declarations, once all their rows are read: "no event" last
 unfoldable pub finish : Answer Declared → Answer Declared

@@ -3,30 +3,27 @@
 use Prim.Native.Nat.{ℕ, zero, suc, _+_, _-_, _≤_, _<_}
 use mathlib.Core.Path.{_≡_, refl, sym, ap, _∙_}
 use mathlib.Core.Logic.{_⊎_, inl, inr}
-use mathlib.Core.Bool.{Bool, true, false}
-use mathlib.Core.List.{List, [], _∷_, _++_}
-use lib.ListN.{length, getD, take, drop, set, replicate, length-take, length-drop, length-set}
+use mathlib.Core.Bool.{true, false}
+use mathlib.Core.List.{List, [], _∷_}
+use lib.ListN.{length, getD, take, drop, set, replicate, length-drop, length-set}
 use lib.Seq.{take-take, drop-drop, take-suc-set, drop-set-lt, getD-set-same, getD-set-other, length-take-le}
-use lib.Dec.{eqb, leb, ltb}
+use lib.Dec.{eqb}
 use native.Mathlib.Omega.{arith}
 use native.Mathlib.Numerals.{add-one}
-use borrow.Author.Tests.{eq-eqb, ne-eqb, lt-ltb, le-ltb, eqb-true, eqb-false}
-use Rattle.document.specs.Limits.{width, textBytes, mostEvents}
-use Rattle.document.specs.Refusals.{Refusal, textTooLong, overLimits, number, Answer, taken, refused, refuseIf, andThen, refusalOf}
-use Rattle.document.specs.RefusalsLaws.{number-some}
-use Rattle.document.specs.Rows.{firstRow, afterRow, rows, fields, field}
-use Rattle.document.specs.Log.{nextAt}
-use Rattle.document.specs.Declarations.{Declared, setFrom, headerRow, eventRow, eventRows, noEvents, declarations}
+use borrow.Author.Tests.{eqb-true, eqb-false}
+use Rattle.document.specs.Limits.{mostEvents}
+use Rattle.document.specs.Refusals.{number, Answer, taken, refused, refusalOf}
+use Rattle.document.specs.Rows.{firstRow, rows, fields, field}
+use Rattle.document.specs.Declarations.{Declared, setFrom, eventRow, declarations}
 use Rattle.rows.specs.declared.Fields.{Fields}
 use Rattle.rows.specs.RowsLaws.{split-bool}
-use Rattle.rows.specs.TextLaws.{first-within, row-part, row-within, rows-over, rows-next, drop-next, next-later}
-use Rattle.rows.specs.Split.{mostFields, Split}
-use Rattle.rows.specs.SplitLaws.{zero-at}
-use Rattle.rows.specs.FieldsLaws.{split-counts, split-at, split-some}
+use Rattle.rows.specs.TextLaws.{row-part, row-within}
+use Rattle.rows.specs.Split.{Split}
+use Rattle.rows.specs.FieldsLaws.{split-at, split-some}
 use Rattle.declared.specs.declared.Reading.{Reading}
-use Rattle.declared.specs.Readings.{padded, namesAt, Inside, Stands, ReadAs, Reads, Placed, said, noneRead, oneMore, RowAs, RowReads}
-use Rattle.declared.specs.PlacesLaws.{names-length, names-none, names-more}
-use Rattle.declared.specs.RefusalLaws.{rowAdds, header-takes, header-fields, event-takes, event-fits, event-fields}
+use Rattle.declared.specs.Readings.{Inside, Placed, said, noneRead, oneMore, RowAs, RowReads}
+use Rattle.declared.specs.PlacesLaws.{names-more}
+use Rattle.declared.specs.RowRefusalsLaws.{rowAdds, event-takes, event-fits, event-fields}
 
 -- a part of the first n bytes is that part of the whole
 part-of-part : (m k n : ℕ) (l : List ℕ) → k + m ≤ n → take m (drop k (take n l)) ≡ take m (drop k l)
@@ -122,7 +119,7 @@ row-taken text at end t r f q marks e p h s v n m z =
     let k = event-fields text t row f q p s v n in
     let name = sym (field-part text at end f e h s 0) ∙ split-at row f 0 s (split-some row f s) k in
     let a : eventRow (said text t) (firstRow (drop at text)) ≡ taken (rowAdds (said text t) row) =
-        rw (← row-part text at end e) (event-takes text t row p (sym n ∙ v)) in
+    rw (← row-part text at end e) (event-takes text t row p (sym n ∙ v)) in
     record {
       says = rw z (taken-as text (oneMore t (at + getD (f .starts) 0 0) (getD (f .sizes) 0 0) marks) (eventRow (said text t) (firstRow (drop at text)))
           (rowAdds (said text t) row) a
