@@ -20,7 +20,7 @@ use Rattle.words.specs.Numbers.{reads-numbered}
 use Rattle.words.specs.Matching.{set-after-holds}
 use Rattle.words.specs.Count.{more-states}
 use Rattle.words.specs.Taken.{refused-taken, taken-injective}
-use Rattle.demands.specs.Offsets.{declarations-offset}
+use Rattle.document.specs.DeclarationsLaws.{declarations-offset}
 use Rattle.words.specs.Meaning.{statesFor, tableFor, states-few, few-states, allowed-means}
 
 -- the texts that come as far as the readers

@@ -1,3 +1,2 @@
-pub mod Offsets
 pub mod Demand2
 pub mod Together

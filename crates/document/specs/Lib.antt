@@ -6,6 +6,7 @@ pub mod RefusalsLaws
 pub mod Classes
 pub mod Rows
 pub mod Declarations
+pub mod DeclarationsLaws
 pub mod Patterns
 pub mod Tokens
 pub mod Grammar

@@ -1,10 +1,11 @@
 -- What the code answers of tokens: a kind and a place. Document 01, "The pattern text".
 -- Assumes nothing.
 use Prim.Native.Nat.{ℕ, _+_, _-_}
-use mathlib.Core.Bool.{cond}
+use mathlib.Core.Bool.{Bool, cond, _||_}
 use mathlib.Core.List.{List}
 use lib.ListN.{length, getD, drop}
 use lib.Dec.{eqb, ltb}
+use Rattle.document.specs.Classes.{opening}
 use Rattle.document.specs.Patterns.{match}
 use Rattle.document.specs.Tokens as doc
 use Rattle.document.specs.Tokens.{Sized, word, mark, ask, noToken, askToken, tokenAt, Lexeme, lexemesFrom}
@@ -31,6 +32,10 @@ kindOf (word w) = wordKind
 kindOf (mark c) = c
 kindOf (ask v) = cond (eqb v match) askMatchKind askFailKind
 kindOf noToken = noKind
+
+-- the kinds with which a repetition can begin: a name, `epsilon` or `(`
+abbrev pub beginsKind : ℕ → Bool
+beginsKind k = eqb k wordKind || eqb k opening
 
 -- a token of so many bytes that begins at a place
 unfoldable pub shown : ℕ → Sized → Token

@@ -1,3 +1,5 @@
 pub mod Lexing
+pub mod Steps
 pub mod LexingLaws
 pub mod TokensLaws
+pub mod StepsLaws

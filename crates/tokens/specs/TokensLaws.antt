@@ -15,15 +15,7 @@ use Rattle.document.specs.Declarations.{nameRun}
 use Rattle.document.specs.Tokens.{askToken, tokenAt, lexemesFrom}
 use Rattle.rows.specs.RowsLaws.{drop-here, drop-end, split-bool}
 use Rattle.tokens.specs.Lexing.{lexemesAt}
-
--- the first place from `at` on that holds no blank
-abbrev pub skipTo : List ℕ → ℕ → ℕ
-skipTo s at = at + length (takeWhile isBlank (drop at s))
-
--- a place where a token begins, or the text's end
-pub record Begins (s : List ℕ) (at : ℕ) : Type 0 where
-  pub inside : at ≤ length s
-  pub plain : at < length s → isBlank (getD s at 0) ≡ false
+use Rattle.tokens.specs.Steps.{skipTo, Begins}
 
 -- the bytes of a token are passed one by one
 pass : (k at : ℕ) (t : List ℕ) → lexemesFrom k at t ≡ lexemesFrom 0 (at + k) (drop k t)

@@ -4,8 +4,9 @@ ghost use mathlib.Core.Path.{_≡_};
 ghost use Prim.Native.Nat.{ℕ, _+_, _≤_};
 ghost use lib.ListN.{length, drop};
 ghost use Rattle.document.specs.Lists.{startsWith, takeWhile};
-ghost use Rattle.document.specs.Classes.{isBlank, isNameByte};
-ghost use Rattle.tokens.specs.Lexing.{askHere, tokenHere};
+ghost use Rattle.document.specs.Classes.{isBlank};
+ghost use Rattle.tokens.specs.Lexing.{askHere, tokenHere, beginsKind};
+ghost use Rattle.tokens.specs.Steps.{Begins, Looks};
 
 // The kind of a mark is its class; the other kinds follow those numbers.
 pub const WORD: u8 = 0;
@@ -28,6 +29,13 @@ pub struct Token {
     pub end: usize,
 }
 
+// The same, with the place of the token after it.
+pub struct Step {
+    pub kind: u8,
+    pub end: usize,
+    pub next: usize,
+}
+
 // The first place from `at` on that holds no blank, or the text's end.
 pub fn skip(s: &[u8], at: usize) -> usize
     ensures { λ r. ⌜ r ≡ at + length (takeWhile isBlank (drop at (now (s .entry)))) ⌝ }
@@ -36,21 +44,6 @@ pub fn skip(s: &[u8], at: usize) -> usize
     while i < s.len() {
         let b = s[i];
         if !classes::is_blank(b) {
-            return i;
-        }
-        i += 1;
-    }
-    i
-}
-
-// Where the name bytes from `at` on end.
-pub fn name_end(s: &[u8], at: usize) -> usize
-    ensures { λ r. ⌜ r ≡ at + length (takeWhile isNameByte (drop at (now (s .entry)))) ⌝ }
-{
-    let mut i = at;
-    while i < s.len() {
-        let b = s[i];
-        if !classes::is_name_byte(b) {
             return i;
         }
         i += 1;
@@ -110,7 +103,7 @@ pub fn token_at(s: &[u8], at: usize) -> Token
     let b = s[at];
     let class = classes::class_of(b);
     if class == classes::LETTER {
-        let end = name_end(s, at);
+        let end = declared::name_end(s, at);
         return Token { kind: WORD, end };
     }
     let next = at + 1;
@@ -132,5 +125,29 @@ pub fn token_at(s: &[u8], at: usize) -> Token
     Token {
         kind: class,
         end: next,
+    }
+}
+
+// Whether a repetition can begin with a token of this kind: a name, `epsilon` or `(`.
+pub fn begins_atom(kind: u8) -> bool
+    ensures { λ r. ⌜ r ≡ beginsKind kind ⌝ }
+{
+    if kind == WORD {
+        return true;
+    }
+    kind == classes::OPENING
+}
+
+// The token at the place of one, and the place of the next: all that a reader of tokens asks of the text.
+pub fn look(s: &[u8], at: usize) -> Step
+    requires { ⌜ Begins (now s) at ⌝ }
+    ensures { λ r. ⌜ Looks (now (s .entry)) at r ⌝ }
+{
+    let t = token_at(s, at);
+    let next = skip(s, t.end);
+    Step {
+        kind: t.kind,
+        end: t.end,
+        next,
     }
 }

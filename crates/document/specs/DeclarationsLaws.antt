@@ -1,4 +1,4 @@
--- Refused declarations have offset 0 ("its offset for 6 to 9, zero elsewhere").
+-- Laws of document 01, "The declarations": refused declarations have offset 0 ("its offset for 6 to 9, zero elsewhere").
 -- Assumes nothing.
 use Prim.Native.Nat.{ℕ}
 use mathlib.Core.Path.{_≡_, refl}

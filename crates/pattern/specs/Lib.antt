@@ -1,0 +1,4 @@
+pub mod Parts
+pub mod PartsLaws
+pub mod Texts
+pub mod TextsLaws

@@ -1,0 +1,310 @@
+// A pattern text (document 01, "The pattern text"): four readers that call each other, and the text around what they read.
+// A reader answers the shape of what it read and the place of the next token, or a refusal and its place. Places are always
+// those of a token, or the text's end: `tokens::look` passes the blanks.
+// Interior: the crate `translate` reads a pattern with `parse`.
+ghost use mathlib.Core.Path.{_≡_};
+ghost use Prim.Native.Nat.{ℕ, _≤_, _<_};
+ghost use lib.ListN.{length};
+ghost use Rattle.document.specs.Limits.{mostEvents};
+ghost use Rattle.document.specs.Classes.{ereWord};
+ghost use Rattle.document.specs.Tokens.{isWordOf};
+ghost use Rattle.document.specs.Reading.{parse, nextIs, readAlternative, readSequence, readRepetition, readAtom};
+ghost use Rattle.declared.specs.Readings.{namesAt, Inside};
+ghost use Rattle.tokens.specs.Lexing.{wordKind, lexemesAt};
+ghost use Rattle.tokens.specs.Steps.{Begins, Looks};
+ghost use Rattle.pattern.specs.Parts.{Ready, Answers, Marked, refusedAt};
+ghost use Rattle.pattern.specs.Texts.{askedBy, refusedText, takenText, parsedOf, Asks};
+
+// Limits of document 01: event names in a pattern, open parentheses.
+pub const MOST_NAMES: usize = 31;
+
+pub const MOST_OPEN: usize = 16;
+
+// The verdicts asked for are a set: bit 0 for match, bit 1 for fail.
+const NONE_ASKED: u8 = 0;
+
+const MATCH_ASKED: u8 = 1;
+
+const FAIL_ASKED: u8 = 2;
+
+const BOTH_ASKED: u8 = 3;
+
+// What a reader answers: a refusal's number and its place; or the place of the next token, how many event names were read up
+// to there, and the shape of what was read.
+pub struct Part {
+    pub refusal: u8,
+    pub at: usize,
+    pub names: usize,
+    pub shape: sets::Shape,
+}
+
+// What a pattern text says: a refusal's number and its offset; or the verdicts asked for and the shape of the pattern.
+pub struct Parsed {
+    pub refusal: u8,
+    pub at: usize,
+    pub asked: u8,
+    pub shape: sets::Shape,
+}
+
+fn refused_at(refusal: u8, at: usize) -> Part
+    ensures { λ r. ⌜ r ≡ refusedAt refusal at ⌝ }
+{
+    let shape = sets::empty();
+    Part {
+        refusal,
+        at,
+        names: 0,
+        shape,
+    }
+}
+
+// An event name, or `epsilon`: 7 before 8.
+fn word<'a, 'b, 'c>(text: &'a [u8], at: usize, t: tokens::Step, names: usize, depth: usize, declarations: &'b [u8], starts: &'c [usize; 16], sizes: &'c [usize; 16], events: usize) -> Part
+    requires { ⌜ Ready (now text) at names depth (now declarations) (now starts) (now sizes) events × (Looks (now text) at t × (t .kind ≡ wordKind)) ⌝ }
+    ensures { λ r. ⌜ Answers (readAtom (namesAt (now (declarations .entry)) events (now (starts .entry)) (now (sizes .entry)))) 0 (now (text .entry)) at names depth r ⌝ }
+{
+    let end = t.end;
+    let name = &text[at..end];
+    if rows::same(name, b"epsilon") {
+        let shape = sets::empty();
+        return Part {
+            refusal: refusals::TAKEN,
+            at: t.next,
+            names,
+            shape,
+        };
+    }
+    let event = declared::find(declarations, starts, sizes, events, name);
+    if events <= event {
+        return refused_at(refusals::UNDECLARED_EVENT, at);
+    }
+    if MOST_NAMES <= names {
+        return refused_at(refusals::TOO_MANY_NAMES, at);
+    }
+    let number = names + 1;
+    let shape = sets::leaf(number, event);
+    Part {
+        refusal: refusals::TAKEN,
+        at: t.next,
+        names: number,
+        shape,
+    }
+}
+
+// What the `*` and `+` after an atom make of it.
+fn marks(text: &[u8], a: Part) -> Part
+    requires { ⌜ (a .refusal ≡ 0) × Begins (now text) (a .at) ⌝ }
+    ensures { λ r. ⌜ Marked (now (text .entry)) a r ⌝ }
+{
+    let mut r = a;
+    loop {
+        let t = tokens::look(text, r.at);
+        let shape = r.shape;
+        if t.kind == classes::STAR {
+            let more = sets::star(shape);
+            r.shape = more;
+            r.at = t.next;
+        } else if t.kind == classes::PLUS {
+            let more = sets::plus(shape);
+            r.shape = more;
+            r.at = t.next;
+        } else {
+            return r;
+        }
+    }
+}
+
+// An event name, `epsilon`, or an alternative in parentheses. The nesting is judged before the alternative is read, so that
+// the depth of the calls stays within what 16 parentheses ask.
+pub fn atom<'a, 'b, 'c>(text: &'a [u8], at: usize, names: usize, depth: usize, declarations: &'b [u8], starts: &'c [usize; 16], sizes: &'c [usize; 16], events: usize) -> Part
+    requires { ⌜ Ready (now text) at names depth (now declarations) (now starts) (now sizes) events ⌝ }
+    ensures { λ r. ⌜ Answers (readAtom (namesAt (now (declarations .entry)) events (now (starts .entry)) (now (sizes .entry)))) 0 (now (text .entry)) at names depth r ⌝ }
+{
+    let t = tokens::look(text, at);
+    if t.kind == tokens::WORD {
+        return word(text, at, t, names, depth, declarations, starts, sizes, events);
+    }
+    if t.kind != classes::OPENING {
+        return refused_at(refusals::NOT_OF_GRAMMAR, at);
+    }
+    if MOST_OPEN <= depth {
+        return refused_at(refusals::TOO_DEEP, at);
+    }
+    let a = alternative(text, t.next, names, depth + 1, declarations, starts, sizes, events);
+    if a.refusal != refusals::TAKEN {
+        return a;
+    }
+    let u = tokens::look(text, a.at);
+    if u.kind != classes::CLOSING {
+        return refused_at(refusals::NOT_OF_GRAMMAR, a.at);
+    }
+    let shape = a.shape;
+    Part {
+        refusal: refusals::TAKEN,
+        at: u.next,
+        names: a.names,
+        shape,
+    }
+}
+
+// An atom followed by any number of `*` or `+`.
+pub fn repetition<'a, 'b, 'c>(text: &'a [u8], at: usize, names: usize, depth: usize, declarations: &'b [u8], starts: &'c [usize; 16], sizes: &'c [usize; 16], events: usize) -> Part
+    requires { ⌜ Ready (now text) at names depth (now declarations) (now starts) (now sizes) events ⌝ }
+    ensures { λ r. ⌜ Answers (readRepetition (namesAt (now (declarations .entry)) events (now (starts .entry)) (now (sizes .entry)))) 1 (now (text .entry)) at names depth r ⌝ }
+{
+    let a = atom(text, at, names, depth, declarations, starts, sizes, events);
+    if a.refusal != refusals::TAKEN {
+        return a;
+    }
+    marks(text, a)
+}
+
+// One or more repetitions side by side.
+pub fn sequence<'a, 'b, 'c>(text: &'a [u8], at: usize, names: usize, depth: usize, declarations: &'b [u8], starts: &'c [usize; 16], sizes: &'c [usize; 16], events: usize) -> Part
+    requires { ⌜ Ready (now text) at names depth (now declarations) (now starts) (now sizes) events ⌝ }
+    ensures { λ r. ⌜ Answers (readSequence (namesAt (now (declarations .entry)) events (now (starts .entry)) (now (sizes .entry)))) 2 (now (text .entry)) at names depth r ⌝ }
+{
+    let a = repetition(text, at, names, depth, declarations, starts, sizes, events);
+    if a.refusal != refusals::TAKEN {
+        return a;
+    }
+    let t = tokens::look(text, a.at);
+    if !tokens::begins_atom(t.kind) {
+        return a;
+    }
+    let b = sequence(text, a.at, a.names, depth, declarations, starts, sizes, events);
+    if b.refusal != refusals::TAKEN {
+        return b;
+    }
+    let x = a.shape;
+    let y = b.shape;
+    let shape = sets::sequence(x, y);
+    Part {
+        refusal: refusals::TAKEN,
+        at: b.at,
+        names: b.names,
+        shape,
+    }
+}
+
+// One or more sequences separated by `|`.
+pub fn alternative<'a, 'b, 'c>(text: &'a [u8], at: usize, names: usize, depth: usize, declarations: &'b [u8], starts: &'c [usize; 16], sizes: &'c [usize; 16], events: usize) -> Part
+    requires { ⌜ Ready (now text) at names depth (now declarations) (now starts) (now sizes) events ⌝ }
+    ensures { λ r. ⌜ Answers (readAlternative (namesAt (now (declarations .entry)) events (now (starts .entry)) (now (sizes .entry)))) 3 (now (text .entry)) at names depth r ⌝ }
+{
+    let a = sequence(text, at, names, depth, declarations, starts, sizes, events);
+    if a.refusal != refusals::TAKEN {
+        return a;
+    }
+    let t = tokens::look(text, a.at);
+    if t.kind != classes::BAR {
+        return a;
+    }
+    let b = alternative(text, t.next, a.names, depth, declarations, starts, sizes, events);
+    if b.refusal != refusals::TAKEN {
+        return b;
+    }
+    let x = a.shape;
+    let y = b.shape;
+    let shape = sets::alternative(x, y);
+    Part {
+        refusal: refusals::TAKEN,
+        at: b.at,
+        names: b.names,
+        shape,
+    }
+}
+
+fn refused_text(refusal: u8, at: usize) -> Parsed
+    ensures { λ r. ⌜ r ≡ refusedText refusal at ⌝ }
+{
+    let shape = sets::empty();
+    Parsed {
+        refusal,
+        at,
+        asked: NONE_ASKED,
+        shape,
+    }
+}
+
+fn taken_text(asked: u8, a: Part) -> Parsed
+    ensures { λ r. ⌜ r ≡ takenText asked (a .shape) ⌝ }
+{
+    let shape = a.shape;
+    Parsed {
+        refusal: refusals::TAKEN,
+        at: 0,
+        asked,
+        shape,
+    }
+}
+
+// Whether the token at a place is `ere`.
+fn is_ere(text: &[u8], at: usize, t: tokens::Step) -> bool
+    requires { ⌜ Looks (now text) at t ⌝ }
+    ensures { λ r. ⌜ r ≡ nextIs (isWordOf ereWord) (lexemesAt (now (text .entry)) at) ⌝ }
+{
+    if t.kind != tokens::WORD {
+        return false;
+    }
+    let end = t.end;
+    rows::same(&text[at..end], b"ere")
+}
+
+// The verdict that a token of this kind asks for.
+fn asked_by(kind: u8) -> u8
+    ensures { λ r. ⌜ r ≡ askedBy kind ⌝ }
+{
+    if kind == tokens::ASK_MATCH {
+        return MATCH_ASKED;
+    }
+    if kind == tokens::ASK_FAIL {
+        return FAIL_ASKED;
+    }
+    NONE_ASKED
+}
+
+// After the pattern: `@match`, `@fail` or both, each once, in either order, and nothing more.
+fn asks(text: &[u8], a: Part) -> Parsed
+    requires { ⌜ Begins (now text) (a .at) ⌝ }
+    ensures { λ r. ⌜ Asks (now (text .entry)) a r ⌝ }
+{
+    let t = tokens::look(text, a.at);
+    let first = asked_by(t.kind);
+    if first == NONE_ASKED {
+        return refused_text(refusals::NOT_OF_GRAMMAR, a.at);
+    }
+    if text.len() <= t.next {
+        return taken_text(first, a);
+    }
+    let u = tokens::look(text, t.next);
+    let second = asked_by(u.kind);
+    if first + second != BOTH_ASKED {
+        return refused_text(refusals::NOT_OF_GRAMMAR, t.next);
+    }
+    if u.next < text.len() {
+        return refused_text(refusals::NOT_OF_GRAMMAR, u.next);
+    }
+    taken_text(BOTH_ASKED, a)
+}
+
+// A whole pattern text: `ere`, `:`, an alternative, and the verdicts asked for.
+pub fn parse<'a, 'b, 'c>(text: &'a [u8], declarations: &'b [u8], starts: &'c [usize; 16], sizes: &'c [usize; 16], events: usize) -> Parsed
+    requires { ⌜ Inside (now declarations) (now starts) (now sizes) × (events ≤ mostEvents) ⌝ }
+    ensures { λ r. ⌜ r ≡ parsedOf (parse (namesAt (now (declarations .entry)) events (now (starts .entry)) (now (sizes .entry))) (now (text .entry))) ⌝ }
+{
+    let start = tokens::skip(text, 0);
+    let ere = tokens::look(text, start);
+    if !is_ere(text, start, ere) {
+        return refused_text(refusals::NOT_OF_GRAMMAR, start);
+    }
+    let colon = tokens::look(text, ere.next);
+    if colon.kind != classes::COLON {
+        return refused_text(refusals::NOT_OF_GRAMMAR, ere.next);
+    }
+    let a = alternative(text, colon.next, 0, 0, declarations, starts, sizes, events);
+    if a.refusal != refusals::TAKEN {
+        return refused_text(a.refusal, a.at);
+    }
+    asks(text, a)
+}

@@ -1,0 +1,2 @@
+pub mod Translations
+pub mod TranslationsLaws
