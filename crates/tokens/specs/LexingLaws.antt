@@ -24,7 +24,7 @@ module _ (p : ℕ → Bool) (s : List ℕ) (at i : ℕ) (q : i + length (takeWhi
   run-stops h d e n = let k = rw (drop-here s i h, sym e ∙ not-true d n, takeWhile) at q in omega arith
 
   pub run-goes-on : i < length s → (d : Bool) → d ≡ p (getD s i 0) → not d ≡ false
-    → i + 1 + length (takeWhile p (drop (i + 1) s)) ≡ at + length (takeWhile p (drop at s))
+      → i + 1 + length (takeWhile p (drop (i + 1) s)) ≡ at + length (takeWhile p (drop at s))
   unfolding takeWhile
   run-goes-on h d e n = let k = rw (drop-here s i h, sym e ∙ not-false d n, takeWhile) at q in omega arith
 
@@ -59,17 +59,17 @@ module _ (w s : List ℕ) (at i : ℕ) (fit : length w ≤ length s - at) (q : s
 
 -- What stands after an `@`, by the words that may.
 pub ask-match : (s : List ℕ) (at : ℕ) → 1 ≤ at → (e : Bool) → e ≡ startsWith matchWord (drop at s) → e ≡ true
-  → record { kind = askMatchKind; end = at + 5 } ≡ askHere s at
+    → record { kind = askMatchKind; end = at + 5 } ≡ askHere s at
 unfolding askHere shown askToken
 ask-match s at h e q t = let k : at - 1 + 6 ≡ at + 5 = omega arith in rw (sym q ∙ t, k)
 
 pub ask-fail : (s : List ℕ) (at : ℕ) → 1 ≤ at → (e : Bool) → e ≡ startsWith matchWord (drop at s) → e ≡ false
-  → (f : Bool) → f ≡ startsWith failWord (drop at s) → f ≡ true → record { kind = askFailKind; end = at + 4 } ≡ askHere s at
+    → (f : Bool) → f ≡ startsWith failWord (drop at s) → f ≡ true → record { kind = askFailKind; end = at + 4 } ≡ askHere s at
 unfolding askHere shown askToken
 ask-fail s at h e q t f r u = let k : at - 1 + 5 ≡ at + 4 = omega arith in rw (sym q ∙ t, sym r ∙ u, k)
 
 pub ask-none : (s : List ℕ) (at : ℕ) → 1 ≤ at → (e : Bool) → e ≡ startsWith matchWord (drop at s) → e ≡ false
-  → (f : Bool) → f ≡ startsWith failWord (drop at s) → f ≡ false → record { kind = noKind; end = at } ≡ askHere s at
+    → (f : Bool) → f ≡ startsWith failWord (drop at s) → f ≡ false → record { kind = noKind; end = at } ≡ askHere s at
 unfolding askHere shown askToken
 ask-none s at h e q t f r u = let k : at - 1 + 1 ≡ at = omega arith in rw (sym q ∙ t, sym r ∙ u, k)
 

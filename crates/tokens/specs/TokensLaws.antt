@@ -37,10 +37,10 @@ pass-blanks : (at : ℕ) (t : List ℕ) → lexemesFrom 0 at t ≡ lexemesFrom 0
 unfolding lexemesFrom takeWhile
 pass-blanks at [] = refl
 pass-blanks at (b ∷ t) = elim (split-bool (isBlank b)) [
-    inl e ↦ let k : at + suc (length (takeWhile isBlank t)) ≡ at + 1 + length (takeWhile isBlank t) = omega arith in
+  | inl e ↦ let k : at + suc (length (takeWhile isBlank t)) ≡ at + 1 + length (takeWhile isBlank t) = omega arith in
       rw (e, lexemesFrom, takeWhile, k) (pass-blanks (at + 1) t)
   | inr e ↦ let k : at + 0 ≡ at = omega arith in rw (e, takeWhile, k)
-  ]
+]
 
 pub lexemes-skip : (s : List ℕ) (at : ℕ) → lexemesAt s at ≡ lexemesAt s (skipTo s at)
 unfolding lexemesAt
@@ -55,19 +55,19 @@ run-within : (p : ℕ → Bool) (t : List ℕ) → length (takeWhile p t) ≤ le
 unfolding takeWhile
 run-within p [] = omega arith
 run-within p (b ∷ t) = elim (split-bool (p b)) [
-    inl e ↦ rw (e, takeWhile) (let k = run-within p t in omega arith)
+  | inl e ↦ rw (e, takeWhile) (let k = run-within p t in omega arith)
   | inr e ↦ rw (e, takeWhile) (omega arith)
-  ]
+]
 
 run-stop : (p : ℕ → Bool) (t : List ℕ) → length (takeWhile p t) < length t → p (getD t (length (takeWhile p t)) 0) ≡ false
 unfolding takeWhile
 run-stop p [] h = absurd (omega arith)
 run-stop p (b ∷ t) h = elim (split-bool (p b)) [
-    inl e ↦
+  | inl e ↦
       let m : length (takeWhile p t) < length t = let g = rw (e, takeWhile) at h in omega arith in
       rw (e, takeWhile) (run-stop p t m)
   | inr e ↦ rw (e, takeWhile) e
-  ]
+]
 
 -- after the blanks stands a token, or the text's end
 pub skip-begins : (s : List ℕ) (at : ℕ) → at ≤ length s → Begins s (skipTo s at)
@@ -96,36 +96,36 @@ unfolding takeWhile
 run-first p b t e = rw (e, takeWhile)
 
 name-size : (b : ℕ) (t : List ℕ) → isNameByte b ≡ true
-  → (1 ≤ length (takeWhile isNameByte (b ∷ t))) × (length (takeWhile isNameByte (b ∷ t)) ≤ suc (length t))
+    → (1 ≤ length (takeWhile isNameByte (b ∷ t))) × (length (takeWhile isNameByte (b ∷ t)) ≤ suc (length t))
 name-size b t e = rw (run-first isNameByte b t e) (let k = run-within isNameByte t in (omega arith, omega arith))
 
 ask-size : (t : List ℕ) → (1 ≤ askToken t .size) × (askToken t .size ≤ suc (length t))
 unfolding askToken
 ask-size t = elim (split-bool (startsWith matchWord t)) [
-    inl m ↦ rw m (let k = starts-within matchWord t m in (lit≤ tt, omega arith))
+  | inl m ↦ rw m (let k = starts-within matchWord t m in (lit≤ tt, omega arith))
   | inr m ↦ rw m (elim (split-bool (startsWith failWord t)) [
-      inl f ↦ rw f (let k = starts-within failWord t f in (lit≤ tt, omega arith))
+    | inl f ↦ rw f (let k = starts-within failWord t f in (lit≤ tt, omega arith))
     | inr f ↦ rw f (lit≤ tt, omega arith)
-    ])
-  ]
+  ])
+]
 
 pub token-size : (b : ℕ) (t : List ℕ) → (1 ≤ tokenAt b t .size) × (tokenAt b t .size ≤ suc (length t))
 unfolding tokenAt nameRun
 token-size b t = elim (split-bool (eqb (classOf b) letter)) [
-    inl e ↦ let g = name-size b t (rw e) in rw e g
+  | inl e ↦ let g = name-size b t (rw e) in rw e g
   | inr e ↦ rw e (elim (split-bool (eqb (classOf b) atSign)) [
-      inl a ↦ rw a (ask-size t)
+    | inl a ↦ rw a (ask-size t)
     | inr a ↦ rw a (elim (split-bool (leb opening (classOf b) && leb (classOf b) plus)) [
-        inl m ↦ rw m (lit≤ tt, omega arith)
+      | inl m ↦ rw m (lit≤ tt, omega arith)
       | inr m ↦ rw m (lit≤ tt, omega arith)
-      ])
     ])
-  ]
+  ])
+]
 
 -- the token at a place, and the tokens after it
 pub lexemes-token : (s : List ℕ) (at : ℕ) → Begins s at → at < length s
-  → lexemesAt s at ≡ record { token = tokenAt (getD s at 0) (drop (at + 1) s) .token; at = at }
-  ∷ lexemesAt s (at + tokenAt (getD s at 0) (drop (at + 1) s) .size)
+    → lexemesAt s at ≡ record { token = tokenAt (getD s at 0) (drop (at + 1) s) .token; at = at }
+    ∷ lexemesAt s (at + tokenAt (getD s at 0) (drop (at + 1) s) .size)
 unfolding lexemesAt lexemesFrom
 lexemes-token s at g h =
     let z = tokenAt (getD s at 0) (drop (at + 1) s) in

@@ -9,12 +9,17 @@ ghost use Rattle.tokens.specs.Lexing.{askHere, tokenHere};
 
 // The kind of a mark is its class; the other kinds follow those numbers.
 pub const WORD: u8 = 0;
+
 pub const ASK_MATCH: u8 = 12;
+
 pub const ASK_FAIL: u8 = 13;
+
 pub const NO_TOKEN: u8 = 14;
+
 pub const END: u8 = 15;
 
 const MATCH: [u8; 5] = *b"match";
+
 const FAIL: [u8; 4] = *b"fail";
 
 // What stands at a place: its kind, and the place after it.
