@@ -56,3 +56,8 @@ andThen (refused r at) f = refused r at
 abbrev pub takenOr : {A : Type 0} → A → Answer A → A
 takenOr x (taken y) = y
 takenOr x (refused r at) = x
+
+-- the number that a call gives beside its value: 0 where it takes
+abbrev pub refusalOf : {A : Type 0} → Answer A → ℕ
+refusalOf (taken x) = 0
+refusalOf (refused r at) = number r

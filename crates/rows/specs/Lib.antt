@@ -1,4 +1,6 @@
 pub mod Split
 pub mod RowsLaws
+pub mod TextLaws
 pub mod SplitLaws
 pub mod ValueLaws
+pub mod FieldsLaws

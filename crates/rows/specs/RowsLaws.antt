@@ -64,7 +64,7 @@ pub after-more : (b : ℕ) (t : List ℕ) → endsRow b t ≡ false → afterRow
 unfolding afterRow
 after-more b t e = rw (e, afterRow)
 
-ends-two : (b : ℕ) (t : List ℕ) → endsRow b t ≡ true → 1 ≤ length t
+pub ends-two : (b : ℕ) (t : List ℕ) → endsRow b t ≡ true → 1 ≤ length t
 unfolding endsRow
 ends-two b [] e = let z : _≡_ {A = ℕ} 0 1 = cc in absurd (omega arith)
 ends-two b (c ∷ t) e = omega arith

@@ -8,7 +8,7 @@ ghost use lib.ListN.{length, getD, take, drop};
 ghost use Rattle.document.specs.Lists.{equal};
 ghost use Rattle.document.specs.Rows.{endsRow, firstRow, stray, field, valueOf};
 ghost use Rattle.document.specs.Log.{nextAt};
-ghost use Rattle.rows.specs.Split.{upToComma, Split, added};
+ghost use Rattle.rows.specs.Split.{upToComma, mostFields, Split, added};
 
 const CR: u8 = 13;
 
@@ -172,6 +172,16 @@ pub fn split(row: &[u8]) -> Fields
         f = g;
     }
     f
+}
+
+// A field of a row that was split, as that part of the row.
+pub fn field_at(row: &[u8], f: Fields, k: usize) -> &[u8]
+    requires { ⌜ Split (now row) f × ((k < f .count) × (f .count ≤ mostFields)) ⌝ }
+    ensures { λ r. ⌜ now r ≡ field (now (row .entry)) k ⌝ }
+{
+    let start = f.starts[k];
+    let end = start + f.sizes[k];
+    &row[start..end]
 }
 
 // The value that a field says, or 0 where it says none.
