@@ -5,19 +5,16 @@ use Prim.Native.Nat.{ℕ, _<_, _≤_}
 use mathlib.Core.Path.{_≡_, refl, sym, subst, subst₂, _∙_}
 use mathlib.Core.Bool.{Bool, true, false}
 use mathlib.Core.List.{List}
-use lib.ListN.{length, drop}
+use lib.ListN.{length}
 use lib.Dec.{ltb}
 use borrow.Author.Tests.{ltb-true, ltb-false, le-ltb, lt-ltb}
 use Rattle.document.specs.Limits.{textBytes, mostStates}
 use Rattle.document.specs.Refusals.{Refusal, textTooLong, tooManyStates, Answer, taken, refused, refuseIf, andThen}
 use Rattle.document.specs.Declarations.{Declared, declarations}
-use Rattle.document.specs.Patterns.{Pattern}
-use Rattle.document.specs.Tokens.{lexemes, offsetOf}
-use Rattle.document.specs.Grammar.{Whole, Fault, FirstFault}
 use Rattle.document.specs.Reading.{Parsed, parse}
 use Rattle.document.specs.Property.{Property}
 use Rattle.document.specs.Translate.{anew, translate}
-use Rattle.document.specs.Demands.{tokensOf, Allowed, Means, RefusedFor, declarationsRefused, patternTooLong, faulty, statesExceeded, Demand2}
+use Rattle.document.specs.Demands.{Allowed, Means, RefusedFor, declarationsRefused, patternTooLong, faulty, statesExceeded, Demand2}
 use Rattle.grammar.specs.Parsing.{whole-faultless-parse, parse-taken-whole, parse-taken-faultless, parse-refused-first}
 use Rattle.words.specs.Numbers.{reads-numbered}
 use Rattle.words.specs.Matching.{set-after-holds}

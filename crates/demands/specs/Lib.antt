@@ -1,2 +1,3 @@
 pub mod Offsets
 pub mod Demand2
+pub mod Together

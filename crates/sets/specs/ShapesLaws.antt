@@ -14,10 +14,9 @@ use lib.Pow.{pow-lt}
 use borrow.Author.Count.{below-more}
 use borrow.Author.Tests.{eqb-true, eqb-false}
 use Rattle.document.specs.Lists.{tabulate}
-use Rattle.document.specs.Patterns.{Pattern, epsilon, name, alternative, sequence, star, plus}
+use Rattle.document.specs.Patterns.{Pattern, name, alternative, sequence, star, plus}
 use Rattle.document.specs.Positions.{holds, nullable, firsts, lasts, follows, named}
-use Rattle.words.specs.Range.{tabulate-at, tabulate-length}
-use Rattle.sets.specs.declared.Shape.{Shape}
+use Rattle.words.specs.Range.{tabulate-at}
 use Rattle.sets.specs.Shapes.{shapeOf, mergeOf, linkOf, eitherShape, thenShape, starShape, plusShape}
 
 -- two rules that agree below n make the same list

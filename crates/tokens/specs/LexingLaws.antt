@@ -1,12 +1,11 @@
 -- Laws of the loops over a text's bytes: how far a run of bytes goes, and whether a word stands at a place.
 -- Assumes nothing.
-use Prim.Native.Nat.{ℕ, zero, suc, _+_, _-_, _≤_, _<_}
-use mathlib.Core.Path.{_≡_, refl, sym, ap, _∙_}
-use mathlib.Core.Bool.{Bool, true, false, not, cond, _&&_, and-false}
+use Prim.Native.Nat.{ℕ, _+_, _-_, _≤_, _<_}
+use mathlib.Core.Path.{_≡_, refl, sym, _∙_}
+use mathlib.Core.Bool.{Bool, true, false, not, and-false}
 use mathlib.Core.List.{List, [], _∷_}
 use lib.ListN.{length, getD, drop, length-drop}
-use lib.Seq.{getD-drop, drop-drop}
-use lib.Dec.{eqb, leb, ltb}
+use lib.Dec.{eqb}
 use native.Mathlib.Omega.{arith}
 use borrow.Author.Tests.{eq-eqb, ne-eqb, not-true, not-false, lt-ltb, le-ltb, le-leb, lt-leb}
 use Rattle.document.specs.Lists.{takeWhile, startsWith}

@@ -1,21 +1,20 @@
 -- From the token at a place to the list of tokens from there on: the readers go from token to token, blanks passed.
 -- Assumes nothing.
 use Prim.Native.Nat.{ℕ, zero, suc, _+_, _-_, _≤_, _<_}
-use mathlib.Core.Path.{_≡_, refl, sym, ap, _∙_}
-use mathlib.Core.Logic.{_⊎_, inl, inr}
+use mathlib.Core.Path.{_≡_, refl}
+use mathlib.Core.Logic.{inl, inr}
 use mathlib.Core.Bool.{Bool, true, false, _&&_}
 use mathlib.Core.List.{List, [], _∷_}
 use lib.ListN.{length, getD, drop, length-drop}
 use lib.Seq.{drop-drop, getD-drop}
 use lib.Dec.{eqb, leb, lit≤}
 use native.Mathlib.Omega.{arith}
-use borrow.Author.Tests.{lt-ltb, eqb-true}
 use Rattle.document.specs.Lists.{takeWhile, startsWith}
-use Rattle.document.specs.Classes.{classOf, isBlank, isLetter, isNameByte, letter, atSign, opening, plus, matchWord, failWord}
+use Rattle.document.specs.Classes.{classOf, isBlank, isNameByte, letter, atSign, opening, plus, matchWord, failWord}
 use Rattle.document.specs.Declarations.{nameRun}
-use Rattle.document.specs.Tokens.{Lexeme, askToken, tokenAt, lexemesFrom}
+use Rattle.document.specs.Tokens.{askToken, tokenAt, lexemesFrom}
 use Rattle.rows.specs.RowsLaws.{drop-here, drop-end, split-bool}
-use Rattle.tokens.specs.Lexing.{kindOf, endKind, shown, tokenHere, lexemesAt}
+use Rattle.tokens.specs.Lexing.{lexemesAt}
 
 -- the first place from `at` on that holds no blank
 abbrev pub skipTo : List ℕ → ℕ → ℕ

@@ -1,0 +1,4 @@
+pub mod Meaning
+pub mod Steps
+pub mod RangeLaws
+pub mod LeadsLaws
