@@ -194,3 +194,31 @@ pub fn list(s: &[u8], at: usize, into: &mut [u32]) -> Count {
         next,
     }
 }
+
+// The largest number of a byte.
+const LARGEST_BYTE: u32 = 255;
+
+// A number as a byte; numbers past the largest byte as that one.
+pub fn as_byte(n: u32) -> u8 {
+    if LARGEST_BYTE < n {
+        return 255;
+    }
+    n as u8
+}
+
+// A list, after its space, of which numbers past 255 stand for any that is out of every range: the same as `list`, for bytes.
+pub fn small_list(s: &[u8], at: usize, into: &mut [u8]) -> usize {
+    let count = long(s, at);
+    if into.len() < count.value {
+        return STUCK;
+    }
+    let mut next = count.next;
+    let mut i: usize = 0;
+    while i < count.value {
+        let read = number(s, next);
+        into[i] = as_byte(read.value);
+        next = read.next;
+        i += 1;
+    }
+    next
+}

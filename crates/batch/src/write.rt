@@ -124,6 +124,17 @@ pub fn with_number(out: &mut [u8], run: Run, n: u32) -> Run
     }
 }
 
+// The same if a test holds, else the list as it is.
+pub fn with_number_if(out: &mut [u8], run: Run, test: bool, n: u32) -> Run
+    requires { ⌜ run .times + 1 < 2 ^ 64 ⌝ }
+    ensures { λ r. ⌜ r .times ≤ run .times + 1 ⌝ }
+{
+    if test {
+        return with_number(out, run, n);
+    }
+    run
+}
+
 // The bytes filled by a list, its last numbers included.
 pub fn list_end(out: &mut [u8], run: Run) -> usize {
     if run.times < LEAST_RUN {
@@ -158,4 +169,19 @@ pub fn then_list(out: &mut [u8], filled: usize, numbers: &[u32]) -> usize {
         i += 1;
     }
     list_end(out, run)
+}
+
+// A list of small numbers.
+pub fn then_small_list(out: &mut [u8], filled: usize, numbers: &[u8]) -> usize {
+    let mut run = list_of(out, filled, numbers.len());
+    let mut i: usize = 0;
+    while i < numbers.len() {
+        run = with_number(out, run, from_byte(numbers[i]));
+        i += 1;
+    }
+    list_end(out, run)
+}
+
+fn from_byte(n: u8) -> u32 {
+    n as u32
 }

@@ -6,6 +6,7 @@ use batch::read;
 use batch::write;
 
 mod input;
+mod properties;
 mod texts;
 
 // Two whole requests of the largest size.
@@ -26,13 +27,33 @@ struct Progress {
     filled: usize,
 }
 
+// A request that is not of the form, or whose word is not known.
+pub(crate) fn stuck(filled: usize) -> Told {
+    Told {
+        next: read::STUCK,
+        filled,
+    }
+}
+
+// `refused`, the number of the refusal and its offset.
+pub(crate) fn refused(out: &mut [u8], filled: usize, refusal: u8, offset: usize) -> usize {
+    let begun = write::word(out, filled, b"refused");
+    let numbered = write::then_number(out, begun, refusal as usize);
+    write::then_number(out, numbered, offset)
+}
+
 // The answer to the request at a place, by its word.
 fn answer(s: &[u8], at: usize, out: &mut [u8], filled: usize) -> Told
     requires { ⌜ at ≤ length (now s) ⌝ }
 {
     let end = read::word_end(s, at);
     let word = &s[at..end];
-    texts::answer(word, s, end, out, filled)
+    // A word that a group of calls does not know leaves it stuck, with nothing written.
+    let on_text = texts::answer(word, s, end, out, filled);
+    if on_text.next != read::STUCK {
+        return on_text;
+    }
+    properties::answer(word, s, end, out, filled)
 }
 
 // The progress after one request: answered by a line, or by `malformed`, after which nothing is left of the batch.

@@ -2,19 +2,13 @@
 ghost use Prim.Native.Nat.{_≤_, _<_};
 ghost use lib.ListN.{length};
 use crate::Told;
+use crate::refused;
+use crate::stuck;
 use batch::read;
 use batch::write;
 
 // The classes of all 256 bytes.
 const BYTE_VALUES: usize = 256;
-
-// A request that is not of the form.
-fn stuck(filled: usize) -> Told {
-    Told {
-        next: read::STUCK,
-        filled,
-    }
-}
 
 fn class_list(out: &mut [u8], filled: usize) -> usize {
     let mut run = write::list_of(out, filled, BYTE_VALUES);
@@ -75,7 +69,7 @@ fn after_row(text: &[u8], at: usize) -> usize
 // The row at an offset of a text, and the offset after it.
 fn row_at(text: &[u8], offset: usize, out: &mut [u8], filled: usize) -> usize {
     if text.len() < offset {
-        return refused(out, filled, refusals::OFFSET_PAST_LOG);
+        return refused(out, filled, refusals::OFFSET_PAST_LOG, 0);
     }
     if text.len() == offset {
         return write::word(out, filled, b"end");
@@ -84,13 +78,6 @@ fn row_at(text: &[u8], offset: usize, out: &mut [u8], filled: usize) -> usize {
     let begun = write::word(out, filled, b"row");
     let told = write::then_bytes(out, begun, &text[offset..end]);
     write::then_number(out, told, after_row(text, offset))
-}
-
-// `refused` and the number of a refusal that has no offset.
-fn refused(out: &mut [u8], filled: usize, refusal: u8) -> usize {
-    let begun = write::word(out, filled, b"refused");
-    let numbered = write::then_number(out, begun, refusal as usize);
-    write::then_number(out, numbered, 0)
 }
 
 // `rowat` OFFSET text
