@@ -5,13 +5,13 @@ use Prim.Native.Nat.{ℕ, zero, suc, _+_, _-_, _*_, _/_, _%_, _^_, _<_, _≤_}
 use native.Mathlib.Omega.{arith}
 use native.Mathlib.Nat.{mod-lt, zero-lt-suc, pow-suc, mul-mod-left, div-eq-of-lt, div-add-mod', two-pow-succ, div-one, one-mul, mod-eq-of-lt}
 use native.Mathlib.Decide.{ℕ-discrete}
-use mathlib.Core.Path.{_≡_, refl, sym, ap, ap₂, _∙_}
+use mathlib.Core.Path.{_≡_, refl, sym, ap, _∙_}
 use mathlib.Core.Logic.{_⊎_, inl, inr}
-use mathlib.Core.Bool.{Bool, true, false, cond, not, _||_, _&&_, or-true, and-false}
+use mathlib.Core.Bool.{Bool, true, false, not, _||_, _&&_, or-true, and-false}
 use lib.Dec.{eqb, ltb}
 use lib.Bits.{bitOr, bitAnd, or-shr, or-mod, and-shr, and-mod, and-zero-l}
 use lib.Pow.{pow-add, pow-lt, pow-pos, shl-shr, shr-shr}
-use borrow.Author.Tests.{eq-eqb, ne-eqb, eqb-true, eqb-false, ltb-true, ltb-false, not-false}
+use borrow.Author.Tests.{eq-eqb, ne-eqb, eqb-true, ltb-true, ltb-false, not-false}
 use Rattle.document.specs.Positions.{holds}
 use Rattle.bits.specs.Bits.{meets}
 

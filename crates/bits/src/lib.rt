@@ -1,8 +1,8 @@
 // Sets of numbers as the bits of a word: bit k says whether the set holds k (document 01, "The table"; the definition is
 // `holds`). Leaves that the table and the pattern's sets share, and in specs/ the laws of `|`, `&` and one bit.
 ghost use mathlib.Core.Path.{_≡_};
-ghost use mathlib.Core.Bool.{cond, not};
-ghost use Prim.Native.Nat.{ℕ, _<_, _^_};
+ghost use mathlib.Core.Bool.{cond};
+ghost use Prim.Native.Nat.{_<_, _^_};
 ghost use Rattle.document.specs.Positions.{holds};
 ghost use Rattle.bits.specs.Bits.{meets};
 

@@ -2,6 +2,7 @@ pub mod Bytes
 pub mod Lists
 pub mod Limits
 pub mod Refusals
+pub mod RefusalsLaws
 pub mod Classes
 pub mod Rows
 pub mod Declarations

@@ -7,9 +7,9 @@ use native.Mathlib.Numerals.{add-one}
 use native.Mathlib.Decide.{ℕ-discrete}
 use mathlib.Core.Path.{_≡_, refl, sym, ap, ap₂, _∙_}
 use mathlib.Core.Logic.{inl, inr}
-use mathlib.Core.Bool.{Bool, true, false, cond, not, _&&_, _||_, and-true, and-false, or-comm, or-false}
-use mathlib.Core.List.{List, [], _∷_}
-use lib.ListN.{length, getD, set, replicate, length-set, length-replicate, getD-replicate}
+use mathlib.Core.Bool.{Bool, true, false, cond, _&&_, _||_, and-false, or-comm, or-false}
+use mathlib.Core.List.{List}
+use lib.ListN.{length, getD, set, replicate, length-set, length-replicate}
 use lib.Seq.{getD-set-same, getD-set-other, ext-getD}
 use lib.Dec.{eqb, ltb}
 use lib.Bits.{bitOr}
@@ -19,13 +19,13 @@ use Rattle.document.specs.Lists.{everyBelow, someBelow, tabulate}
 use Rattle.document.specs.Limits.{mostEvents, mostStates}
 use Rattle.document.specs.Positions.{holds}
 use Rattle.document.specs.Property.{Property, inRange, nextState, verdict, asksFor, isAsked, leadsIn, leadsAfter, leads, everyEvent, hopeful}
+use Rattle.words.specs.Range.{InRange, in-range-range, below-every, tabulate-at, tabulate-past, tabulate-length, tabulate-same}
 use Rattle.bits.specs.Bits.{meets}
 use Rattle.bits.specs.BitsLaws.{split-bool, holds-or, holds-zero, holds-high, holds-pow-same, holds-pow-other, meets-zero, meets-or, meets-pow}
 use Rattle.property.specs.Meaning.{Asks, Asking, Leading, Hopes}
 use Rattle.property.specs.Steps.{Within, Ways, AllWays, Round, Reached}
-use Rattle.property.specs.RangeLaws.{Ranges, in-range-says, every-at}
 
--- Tests and tables of a function's values, by those values.
+-- Tests of the numbers below n, by what each is.
 pub some-same : (n : ℕ) (f g : ℕ → Bool) → ((k : ℕ) → k < n → f k ≡ g k) → someBelow n f ≡ someBelow n g
 unfolding someBelow
 some-same zero f g h = refl
@@ -34,28 +34,6 @@ some-same (suc n) f g h = ap₂ _||_ (h n (omega arith)) (some-same n f g (λ k 
 some-next : (n : ℕ) (f : ℕ → Bool) → someBelow (n + 1) f ≡ f n || someBelow n f
 unfolding someBelow
 some-next n f = rw add-one
-
-pub tabulate-same : {A : Type 0} (n : ℕ) (f g : ℕ → A) → ((k : ℕ) → k < n → f k ≡ g k) → tabulate n f ≡ tabulate n g
-unfolding tabulate
-tabulate-same zero f g h = refl
-tabulate-same (suc n) f g h = ap₂ _∷_ (h 0 (omega arith)) (tabulate-same n (λ k. f (suc k)) (λ k. g (suc k)) (λ k l. h (suc k) (omega arith)))
-
-pub tabulate-at : {A : Type 0} (n : ℕ) (f : ℕ → A) (k : ℕ) (d : A) → k < n → getD (tabulate n f) k d ≡ f k
-unfolding tabulate
-tabulate-at zero f k d h = absurd (omega arith)
-tabulate-at (suc n) f zero d h = refl
-tabulate-at (suc n) f (suc k) d h = tabulate-at n (λ i. f (suc i)) k d (omega arith)
-
-pub tabulate-past : {A : Type 0} (n : ℕ) (f : ℕ → A) (k : ℕ) (d : A) → n ≤ k → getD (tabulate n f) k d ≡ d
-unfolding tabulate
-tabulate-past zero f k d h = refl
-tabulate-past (suc n) f zero d h = absurd (omega arith)
-tabulate-past (suc n) f (suc k) d h = tabulate-past n (λ i. f (suc i)) k d (omega arith)
-
-pub tabulate-length : {A : Type 0} (n : ℕ) (f : ℕ → A) → length (tabulate n f) ≡ n
-unfolding tabulate
-tabulate-length zero f = refl
-tabulate-length (suc n) f = ap suc (tabulate-length n (λ i. f (suc i)))
 
 none-down : (n s : ℕ) → getD (replicate n false) s false ≡ false
 none-down zero s = refl
@@ -250,7 +228,7 @@ pub reached-leads : (p : Property) (ways : List ℕ) (marked allowed r : ℕ) �
 reached-leads p ways marked allowed r a g = g .says p allowed refl a
 
 -- What is found depends on what is marked among the states and what is allowed among the events, and on nothing else.
-pub leads-same : (p : Property) (marked marked′ allowed allowed′ : ℕ → Bool) → Ranges p → ((s : ℕ) → s < p .states → marked s ≡ marked′ s)
+pub leads-same : (p : Property) (marked marked′ allowed allowed′ : ℕ → Bool) → InRange p → ((s : ℕ) → s < p .states → marked s ≡ marked′ s)
     → ((e : ℕ) → e < p .events → allowed e ≡ allowed′ e) → (n : ℕ) → leadsAfter p marked allowed n ≡ leadsAfter p marked′ allowed′ n
 unfolding leadsAfter leadsIn
 leads-same p marked marked′ allowed allowed′ g m a zero = refl
@@ -262,13 +240,13 @@ leads-same p marked marked′ allowed allowed′ g m a (suc n) =
 -- every event that can be declared is allowed
 every-event : (e : ℕ) → e < mostEvents → holds 65535 e ≡ true
 unfolding everyBelow
-every-event e h = every-at (holds 65535) 16 e refl h
+every-event e h = below-every 16 (holds 65535) refl e h
 
 pub hopes-of : (p : Property) (marked r : ℕ) → inRange p ≡ true → Asks p marked → Leading p marked 65535 r → Hopes p r
 unfolding hopeful leads
 hopes-of p marked r h a l =
-    let g = in-range-says p h in
-    let few = g .events in
+    let g = in-range-range p h in
+    let few = g .fewEvents in
     let e = leads-same p (holds marked) (isAsked p) (holds 65535) everyEvent g
     (λ s m. a .says s ∙ ap (λ (t : Bool). t && isAsked p s) (lt-ltb s (p .states) m))
     (λ k m. every-event k (omega arith)) (p .states) in

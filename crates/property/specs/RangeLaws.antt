@@ -2,89 +2,35 @@
 -- Assumes nothing.
 use Prim.Native.Nat.{ℕ, zero, suc, _+_, _-_, _*_, _^_, _≤_, _<_}
 use native.Mathlib.Omega.{arith}
-use mathlib.Core.Path.{_≡_, refl, sym, ap, _∙_}
-use mathlib.Core.Logic.{inl, inr}
+use mathlib.Core.Path.{_≡_, refl, sym, _∙_}
 use mathlib.Core.Bool.{Bool, true, false, not, _&&_}
 use mathlib.Core.List.{List}
 use lib.ListN.{getD}
 use lib.Dec.{leb, ltb}
-use borrow.Author.Tests.{lt-ltb, le-ltb, le-leb, lt-leb, ltb-true, ltb-false, leb-true, not-true, not-false}
+use borrow.Author.Tests.{lt-ltb, le-ltb, le-leb, lt-leb, leb-true, not-true, not-false}
 use Rattle.document.specs.Lists.{everyBelow}
 use Rattle.document.specs.Limits.{width, mostEvents, mostStates}
 use Rattle.document.specs.Property.{Property, inRange, setOf, nextState, verdict}
-use Rattle.bits.specs.BitsLaws.{split-bool}
+use Rattle.words.specs.Sets.{and-left, and-right}
+use Rattle.words.specs.Range.{in-range-range}
 use Rattle.property.specs.Meaning.{countsFit, setsFit, rowFits, rowsFit}
 use Rattle.property.specs.Steps.{Within}
 
-both : (x y : Bool) → x && y ≡ true → (x ≡ true) × (y ≡ true)
-both true y q = (refl, q)
-both false y q = let z : _≡_ {A = ℕ} 0 1 = cc in absurd (omega arith)
-
--- a test over all numbers below n, by the last of them; and at one of them
+-- a test over all numbers below n, by the last of them
 every-last : (f : ℕ → Bool) (n : ℕ) → 0 < n → everyBelow n f ≡ f (n - 1) && everyBelow (n - 1) f
 unfolding everyBelow
 every-last f zero h = absurd (omega arith)
 every-last f (suc n) h = let z : suc n - 1 ≡ n = omega arith in rw z
 
-every-two : (f : ℕ → Bool) (n : ℕ) → everyBelow (suc n) f ≡ true → (f n ≡ true) × (everyBelow n f ≡ true)
-unfolding everyBelow
-every-two f n e = both (f n) (everyBelow n f) e
-
-pub every-at : (f : ℕ → Bool) (n k : ℕ) → everyBelow n f ≡ true → k < n → f k ≡ true
-every-at f zero k e h = absurd (omega arith)
-every-at f (suc n) k e h = elim (split-bool (ltb k n)) [
-  | inl l ↦ every-at f n k (every-two f n e .1) (ltb-true k n l)
-  | inr l ↦ let z : k ≡ n = omega (arith, ltb-false k n l) in rw z (every-two f n e .0)
-]
-
--- what a table that is taken has
-pub record Ranges (p : Property) : Type 0 where
-  pub parameters : p .parameters ≤ width
-  pub some-event : 1 ≤ p .events
-  pub events : p .events ≤ mostEvents
-  pub some-state : 1 ≤ p .states
-  pub states : p .states ≤ mostStates
-  pub some-verdict : 1 ≤ p .asked
-  pub verdicts : p .asked ≤ 3
-  pub set : (e : ℕ) → e < p .events → setOf p e < 2 ^ (p .parameters)
-  pub verdict-at : (s : ℕ) → s < p .states → verdict p s ≤ 2
-  pub next : (s e : ℕ) → s < p .states → e < p .events → nextState p s e < p .states
-
+-- the test is its three parts
 in-range-parts : (p : Property) → inRange p ≡ countsFit (p .parameters) (p .events) (p .states) (p .asked)
     && setsFit (p .sets) (p .events) (p .parameters) && rowsFit (p .next) (p .verdicts) (p .events) (p .states) (p .states)
 unfolding inRange countsFit setsFit rowsFit rowFits setOf nextState verdict
 in-range-parts p = refl
 
-pub in-range-says : (p : Property) → inRange p ≡ true → Ranges p
-unfolding countsFit setsFit rowsFit rowFits setOf nextState verdict
-in-range-says p h =
-    let a = both (countsFit (p .parameters) (p .events) (p .states) (p .asked) && setsFit (p .sets) (p .events) (p .parameters))
-    (rowsFit (p .next) (p .verdicts) (p .events) (p .states) (p .states)) (sym (in-range-parts p) ∙ h) in
-    let b = both (countsFit (p .parameters) (p .events) (p .states) (p .asked)) (setsFit (p .sets) (p .events) (p .parameters)) (a .0) in
-    let d = both (leb (p .parameters) width && (leb 1 (p .events) && leb (p .events) mostEvents) && (leb 1 (p .states) && leb (p .states) mostStates)) (leb 1 (p .asked) && leb (p .asked) 3) (b .0) in
-    let s = both (leb (p .parameters) width && (leb 1 (p .events) && leb (p .events) mostEvents)) (leb 1 (p .states) && leb (p .states) mostStates) (d .0) in
-    let e = both (leb (p .parameters) width) (leb 1 (p .events) && leb (p .events) mostEvents) (s .0) in
-    let es = both (leb 1 (p .events)) (leb (p .events) mostEvents) (e .1) in
-    let ss = both (leb 1 (p .states)) (leb (p .states) mostStates) (s .1) in
-    let vs = both (leb 1 (p .asked)) (leb (p .asked) 3) (d .1) in
-    let row : (k : ℕ) → k < p .states → (leb (getD (p .verdicts) k 0) 2 ≡ true) × (everyBelow (p .events) (λ i. ltb (getD (p .next) (k * mostEvents + i) 0) (p .states)) ≡ true) =
-    λ k l. both (leb (getD (p .verdicts) k 0) 2) _ (every-at _ (p .states) k (a .1) l) in
-    record {
-      parameters = leb-true _ _ (e .0);
-      some-event = leb-true _ _ (es .0);
-      events = leb-true _ _ (es .1);
-      some-state = leb-true _ _ (ss .0);
-      states = leb-true _ _ (ss .1);
-      some-verdict = leb-true _ _ (vs .0);
-      verdicts = leb-true _ _ (vs .1);
-      set = λ k l. ltb-true _ _ (every-at _ (p .events) k (b .1) l);
-      verdict-at = λ k l. leb-true _ _ (row k l .0);
-      next = λ k i l m. ltb-true _ _ (every-at _ (p .events) i (row k l .1) m);
-    }
-
 pub in-range-within : (p : Property) → inRange p ≡ true → Within (p .next) (p .events) (p .states)
 unfolding nextState
-in-range-within p h = let g = in-range-says p h in record { few-events = g .events; few-states = g .states; entry = g .next }
+in-range-within p h = let g = in-range-range p h in record { few-events = g .fewEvents; few-states = g .fewStates; entry = g .next }
 
 -- The returns of the check of the counts.
 pub counts-parameters : (p e s a : ℕ) → width < p → false ≡ countsFit p e s a
@@ -180,10 +126,15 @@ in-range-rows p b d r q t u v w = w ∙ sym (in-range-parts p ∙ rw (sym q ∙ 
 pub counts-say : (p e s a : ℕ) (b : Bool) → b ≡ countsFit p e s a → not b ≡ false → (p ≤ width) × (e ≤ mostEvents) × (s ≤ mostStates)
 unfolding countsFit
 counts-say p e s a b q t =
-    let d = both (leb p width && (leb 1 e && leb e mostEvents) && (leb 1 s && leb s mostStates)) (leb 1 a && leb a 3) (sym q ∙ not-false b t) in
-    let f = both (leb p width && (leb 1 e && leb e mostEvents)) (leb 1 s && leb s mostStates) (d .0) in
-    let g = both (leb p width) (leb 1 e && leb e mostEvents) (f .0) in
-    (leb-true _ _ (g .0), leb-true _ _ (both (leb 1 e) (leb e mostEvents) (g .1) .1), leb-true _ _ (both (leb 1 s) (leb s mostStates) (f .1) .1))
+    let x = leb p width in
+    let y = leb 1 e && leb e mostEvents in
+    let z = leb 1 s && leb s mostStates in
+    let d = and-left (x && y && z) (leb 1 a && leb a 3) (sym q ∙ not-false b t) in
+    let f = and-left (x && y) z d in (
+      leb-true p width (and-left x y f),
+      leb-true e mostEvents (and-right (leb 1 e) (leb e mostEvents) (and-right x y f)),
+      leb-true s mostStates (and-right (leb 1 s) (leb s mostStates) (and-right (x && y) z d)),
+    )
 
 pub in-range-states : (p : Property) → inRange p ≡ true → p .states ≤ mostStates
-in-range-states p h = in-range-says p h .states
+in-range-states p h = in-range-range p h .fewStates

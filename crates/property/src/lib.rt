@@ -5,8 +5,8 @@
 //     table that is taken: `hopeful(p)` has bit s where one or more events lead from s to a verdict asked for.
 ghost use mathlib.Core.Path.{_≡_};
 ghost use mathlib.Core.Bool.{true, _&&_};
-ghost use Prim.Native.Nat.{ℕ, _+_, _*_, _≤_, _<_, _^_};
-ghost use lib.Dec.{leb, ltb};
+ghost use Prim.Native.Nat.{_+_, _*_, _≤_, _<_};
+ghost use lib.Dec.{leb};
 ghost use Rattle.document.specs.Limits.{mostEvents, mostStates};
 ghost use Rattle.document.specs.Property.{inRange, asksFor};
 ghost use Rattle.property.specs.Meaning.{meaning, countsFit, setsFit, rowFits, rowsFit, Leading, Hopes, Asks};

@@ -2,20 +2,19 @@
 -- Assumes nothing.
 use Prim.Native.Nat.{ℕ, zero, suc, _+_, _-_, _≤_, _<_}
 use mathlib.Core.Path.{_≡_, refl, sym, ap, _∙_}
-use mathlib.Core.Logic.{_⊎_, inl, inr}
-use mathlib.Core.Bool.{Bool, true, false, cond}
+use mathlib.Core.Logic.{inl, inr}
+use mathlib.Core.Bool.{true, false, cond}
 use mathlib.Core.List.{List, [], _∷_}
-use mathlib.Core.List as list
 use lib.ListN.{length, getD, take, drop, set, length-set, length-map, List·getD-map}
 use lib.Seq.{getD-set-same, getD-set-other}
 use lib.Dec.{leb}
 use native.Mathlib.Omega.{arith}
 use borrow.Author.Tests.{leb-true, leb-false, lt-leb}
-use Rattle.document.specs.Rows.{Part, partsFrom, parts, partOf, fields, field}
+use Rattle.document.specs.Rows.{Part, parts, partOf, fields, field}
 use Rattle.rows.specs.declared.Fields.{Fields}
 use Rattle.rows.specs.RowsLaws.{split-bool}
-use Rattle.rows.specs.Split.{upToComma, mostFields, added, collected, noFields, Split}
-use Rattle.rows.specs.SplitLaws.{field-there, partsAfter}
+use Rattle.rows.specs.Split.{mostFields, added, collected, noFields, Split}
+use Rattle.rows.specs.SplitLaws.{field-there}
 
 -- a count that goes no further than one past what a row can have
 pub record Counts (n count : ℕ) : Type 0 where
@@ -122,6 +121,12 @@ split-counts row f s =
 pub fields-some : (row : List ℕ) → 1 ≤ length (fields row)
 unfolding parts
 fields-some row = rw (fields-length row, field-there row 0) (omega arith)
+
+pub split-some : (row : List ℕ) (f : Fields) → Split row f → 1 ≤ f .count
+split-some row f s = elim (split-bool (leb (f .count) mostFields)) [
+  | inl e ↦ let k = fields-some row in let c = split-counts row f s .few (leb-true (f .count) mostFields e) in omega arith
+  | inr e ↦ let c = leb-false (f .count) mostFields e in omega arith
+]
 
 -- each field is the part of the row that its place says
 pub split-at : (row : List ℕ) (f : Fields) (k : ℕ) → Split row f → k < f .count → f .count ≤ mostFields

@@ -4,3 +4,5 @@ pub mod TextLaws
 pub mod SplitLaws
 pub mod ValueLaws
 pub mod FieldsLaws
+pub mod RunsOfRows
+pub mod BuffersOfRows

@@ -1,9 +1,9 @@
 -- Laws of fields: how the parts of a row go on after a comma, and what the collected fields say of them.
 -- Assumes nothing.
 use Prim.Native.Nat.{ℕ, zero, suc, _+_, _-_, _≤_, _<_}
-use mathlib.Core.Path.{_≡_, refl, sym, ap, _∙_}
+use mathlib.Core.Path.{_≡_, refl, sym, ap, ap₂, _∙_}
 use mathlib.Core.Logic.{_⊎_, inl, inr}
-use mathlib.Core.Bool.{true, false}
+use mathlib.Core.Bool.{Bool, true, false}
 use mathlib.Core.List.{List, [], _∷_}
 use mathlib.Core.List as list
 use lib.ListN.{length, getD, take, drop, set, replicate, length-drop, length-set}
@@ -179,7 +179,7 @@ added-spans : (f : Fields) (p : Part) → length (added f p .sizes) ≡ length (
 unfolding added
 added-spans f p = elim (split-bool (leb mostFields (f .count))) [ inl e ↦ rw e | inr e ↦ rw e (length-set (f .sizes) (f .count) (p .size)) ]
 
-zero-at : (n k : ℕ) → _≡_ {A = ℕ} (getD (replicate n 0) k 0) 0
+pub zero-at : (n k : ℕ) → _≡_ {A = ℕ} (getD (replicate n 0) k 0) 0
 zero-at zero k = refl
 zero-at (suc n) zero = refl
 zero-at (suc n) (suc k) = zero-at n k

@@ -88,7 +88,7 @@ pub fn empty() -> Shape
     ensures { λ r. ⌜ r ≡ shapeOf epsilon ⌝ }
 {
     Shape {
-        null: true,
+        null: true, // its one word
         first: 0,
         last: 0,
         follow: [0u32; 32],

@@ -174,6 +174,12 @@ included-compatible (z ∷ c) (x ∷ a) (y ∷ b) s t =
 pub compatible-empty : (w : ℕ) (a : List ℕ) → length a ≡ w → T (compatible a (emptyOf w))
 compatible-empty w a o = included-compatible a a (emptyOf w) (includes-refl a) (includes-empty w a o)
 
+-- the join with what a combination includes is that combination
+pub join-included : (c b : List ℕ) → T (includes c b) → join b c ≡ c
+join-included c b t =
+    includes-antisym (join b c) c (join-includes-right b c (included-compatible c b c t (includes-refl c)))
+    (includes-join c b c t (includes-refl c))
+
 pub compatible-join : (a b c : List ℕ) → T (compatible a b) → T (compatible a c) → T (compatible a (join b c))
 unfolding compatible join
 compatible-join [] [] c s t = t
@@ -189,6 +195,14 @@ compatible-join (x ∷ a) (y ∷ b) (z ∷ c) s t =
 
 pub length-empty : (w : ℕ) → length (emptyOf w) ≡ w
 length-empty w = length-replicate w 0
+
+-- what a combination includes is as wide
+pub length-included : (c b : List ℕ) → T (includes c b) → length b ≡ length c
+unfolding includes
+length-included [] [] t = refl
+length-included [] (y ∷ b) t = absurd t
+length-included (x ∷ c) [] t = absurd t
+length-included (x ∷ c) (y ∷ b) t = ap suc (length-included c b (includes-of x y c b t .1))
 
 pub length-join : (w : ℕ) (a b : List ℕ) → length a ≡ w → length b ≡ w → length (join a b) ≡ w
 unfolding join

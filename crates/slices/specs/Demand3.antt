@@ -3,37 +3,29 @@
 use Prim.Native.Nat.{ℕ, zero-le, _≤_}
 use mathlib.Core.Path.{_≡_, refl, sym, _∙_}
 use mathlib.Core.Logic.{inl, inr, _↔_}
-use mathlib.Core.Bool.{Bool, true, false, not}
+use mathlib.Core.Bool.{true, not}
 use mathlib.Core.List.{List, []}
-use native.Mathlib.Omega.{arith}
 use borrow.Author.Tests.{ltb-false, leb-false, not-false}
 use lib.Dec.{leb, ltb}
-use lib.ListN.{length, drop}
+use lib.ListN.{length}
 use Rattle.document.specs.Limits.{width}
-use Rattle.document.specs.Refusals.{Refusal, badProperty, badSession, noSuchEvent, wrongValues, noRoomForSeen, noRoomForKept, noRoomForReports, Answer, taken, refuseIf}
+use Rattle.document.specs.Refusals.{badProperty, badSession, noSuchEvent, wrongValues, noRoomForKept, taken, refuseIf}
 use Rattle.document.specs.Combinations.{emptyOf, bindsExactly}
 use Rattle.document.specs.Histories.{Event, slice}
 use Rattle.document.specs.OneEvent.{Kept, joinSeen}
 use Rattle.document.specs.Property.{Property, inRange, setOf, stateFrom, stateAfter, hopeful}
-use Rattle.document.specs.Tables.{seenRoom, keptRoom, reportRoom}
-use Rattle.document.specs.Session.{Session, Happened, ascending, sessionWith, sound, firstKept, lentTables, start, keeps, Outcome, outcome, written, withinRooms, stepFrom, event, leaves}
+use Rattle.document.specs.Tables.{seenRoom, keptRoom}
+use Rattle.document.specs.Session.{Session, Happened, ascending, sessionWith, sound, firstKept, lentTables, start, keeps, outcome, written, stepFrom, event, leaves}
 use Rattle.document.specs.Demands.{Lists, itself, SeenIn, KeptIn, Proper, Holds, extended, Reached, fresh, accepted, refusedEvent, Demand3}
 use Rattle.slices.specs.TestsLaws.{so, not-so, either}
 use Rattle.slices.specs.HistoriesLaws.{is-binding, joinOf-made, length-made, made-joinOf}
 use Rattle.slices.specs.OneEventLaws.{Follows}
 use Rattle.slices.specs.SessionLaws.{Fits, seenRoom-with, keptRoom-with, seenLength-with, keptLength-with, with-again}
+use Rattle.slices.specs.StepLaws.{passed, taken-same, stepped}
 use Rattle.slices.specs.HoldsLaws.{ProperHistory, history-width, kept-follows}
 use Rattle.slices.specs.EventLaws.{history-more, comes-to, event-steps}
 use Rattle.slices.specs.LookupLaws.{looks-up}
 use Rattle.slices.specs.HopefulLaws.{hopeful-right}
-
--- an answer that is taken has passed the first test
-passed : {A : Type 0} (t : Bool) (r : Refusal) (a : Answer A) (x : A) → refuseIf t r a ≡ taken x → (t ≡ false) × (a ≡ taken x)
-passed true r a x e = let z : _≡_ {A = ℕ} 0 1 = cc in absurd (omega arith)
-passed false r a x e = (refl, e)
-
-taken-same : {A : Type 0} (x y : A) → taken x ≡ taken y → x ≡ y
-taken-same x y e = cc
 
 -- rows that the history calls for have the width, so they fit tables with room for them
 fits-of : (p : Property) → inRange p ≡ true → (H : List Event) (s : Session) (seen : List (List ℕ)) (kept : List Kept)
@@ -158,24 +150,6 @@ taken-proper p s reports e b h o q =
     let h₄ = passed bad wrongValues (stepFrom 0 p s reports e b) h (h₃ .1) in
     record { declared = leb-false (p .events) e (h₃ .0); width = o; values = not-false (bindsExactly (setOf p e) b) (h₄ .0) }
 
--- a step that is taken found room for what the event comes to, and wrote that down
-step-taken : (from : ℕ) (p : Property) (s : Session) (reports : List ℕ) (o : Outcome) (h : Happened) → withinRooms from p s reports o ≡ taken h
-    → (length (o .seen) ≤ seenRoom (s .seen)) × (length (o .kept) ≤ keptRoom (s .kept)) × (written from p s reports o ≡ h)
-unfolding withinRooms
-step-taken from p s reports o h q =
-    let left = written from p s reports o in
-    let fullSeen = ltb (seenRoom (s .seen)) (length (o .seen)) in
-    let fullKept = ltb (keptRoom (s .kept)) (length (o .kept)) in
-    let fullReports = ltb (reportRoom (drop from reports)) (length (o .rows)) in
-    let from-reports = refuseIf fullReports noRoomForReports (taken left) in
-    let h₁ = passed fullSeen noRoomForSeen (refuseIf fullKept noRoomForKept from-reports) h q in
-    let h₂ = passed fullKept noRoomForKept from-reports h (h₁ .1) in
-    let h₃ = passed fullReports noRoomForReports (taken left) h (h₂ .1) in (
-      ltb-false (seenRoom (s .seen)) (length (o .seen)) (h₁ .0),
-      ltb-false (keptRoom (s .kept)) (length (o .kept)) (h₂ .0),
-      taken-same left h (h₃ .1),
-    )
-
 goes-on : (p : Property) (H : List Event) (s : Session) → inRange p ≡ true → Holds p H s
     → (from : ℕ) (reports : List ℕ) (n e : ℕ) (b : List ℕ) (h : Happened) → Proper p e b → stepFrom from p s reports e b ≡ taken h
     → HoldsIn p (extended p H n e b) (h .session) (length (s .seen)) (length (s .kept))
@@ -183,9 +157,9 @@ unfolding stepFrom written
 goes-on p H s r st from reports n e b h proper q =
     let o = outcome p s e b in
     let c = comes-to p H s r st n e b proper in
-    let t = step-taken from p s reports o h q in
-    rw (← t .2)
-    (holds-with p r (extended p H n e b) s (o .seen) (o .kept) (history-more p H n e b (st .history) proper) (c .seen) (c .kept) (t .0) (t .1))
+    let t = stepped from p s reports o h q in
+    rw (← t .is)
+    (holds-with p r (extended p H n e b) s (o .seen) (o .kept) (history-more p H n e b (st .history) proper) (c .seen) (c .kept) (t .seenRows) (t .keptRows))
 
 -- Sessions that are reached --------------------------------------------------------------------------------------------
 

@@ -14,8 +14,10 @@ use Rattle.document.specs.Session.{Session, keeps, reported, outcome, stepFrom,
 use Rattle.document.specs.Demands.{Lists, itself, SeenIn, KeptIn, ReportedIn, Proper, Holds, extended, ComesTo}
 use Rattle.slices.specs.ListsLaws.{in-more}
 use Rattle.slices.specs.OrderLaws.{of-ascending, combinations}
-use Rattle.slices.specs.SeenLaws.{sees-joinOf, see-sees, see-ascends}
-use Rattle.slices.specs.OneEventLaws.{Before, in-reportsAfter, in-keptAfter, reportsAfter-ascends, keptAfter-ascends}
+use Rattle.slices.specs.SeeLaws.{see-ascends}
+use Rattle.slices.specs.SeenLaws.{sees-joinOf, see-sees}
+use Rattle.slices.specs.MovesLaws.{reportsAfter-ascends, keptAfter-ascends}
+use Rattle.slices.specs.OneEventLaws.{Before, in-reportsAfter, in-keptAfter}
 use Rattle.slices.specs.PropertyLaws.{stateAfter-more}
 use Rattle.slices.specs.HopefulLaws.{hopeful-before}
 use Rattle.slices.specs.HoldsLaws.{ProperHistory, slice-range, kept-follows, seen-lists, Standing, standing, seenOf-holds, keptOf-holds}
@@ -48,7 +50,6 @@ module _ (p : Property) (H : List Event) (s : Session) (r : inRange p ≡ true) 
     width = q .width;
     joins = λ c o. sees-joinOf width H (h .seen) (st .widths) (st .sees) c o;
     exactly = st .follows;
-    order = st .keptOrder;
     back = λ k f t v.
         hopeful-before p r (k .state) e (rw (f .state) (slice-range p r H (h .history) (k .combination))) (q .declared) v;
   }
@@ -68,7 +69,7 @@ module _ (p : Property) (H : List Event) (s : Session) (r : inRange p ≡ true) 
 
   kept-lists-after : Lists (λ k. k .combination) (KeptIn p more) keptRows
   kept-lists-after = record {
-    order = of-ascending (combinations keptRows) (keptAfter-ascends known);
+    order = of-ascending (combinations keptRows) (keptAfter-ascends width (nextState p) e b (h .seen) (h .kept) (st .keptOrder) (keeps p));
     exactly = λ k. (
       (λ i. kept-follows p r more more-proper k .1 (in-keptAfter known k .0 i)),
       (λ f. in-keptAfter known k .1 (kept-follows p r more more-proper k .0 f)),
@@ -78,7 +79,7 @@ module _ (p : Property) (H : List Event) (s : Session) (r : inRange p ≡ true) 
   report-lists-after : Lists (λ k. k .combination) (ReportedIn p more b) reportRows
   unfolding reported
   report-lists-after = record {
-    order = of-ascending (combinations reportRows) (reportsAfter-ascends known);
+    order = of-ascending (combinations reportRows) (reportsAfter-ascends width (nextState p) e b (h .seen) (h .kept) (st .keptOrder) (reported p));
     exactly = λ k. (
       (λ i.
           let f = in-reportsAfter known k .0 i in

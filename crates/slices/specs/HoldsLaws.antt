@@ -1,25 +1,21 @@
 -- What tables that stand for a history hold, in the words of the laws: widths, states in range, rows that follow their
 -- combination and are hopeful, numbers past the parameters 0.
 -- Assumes nothing.
-use Prim.Native.Nat.{ℕ, zero, suc, _+_, _^_, _<_, _≤_}
+use Prim.Native.Nat.{ℕ, _<_}
 use mathlib.Core.Path.{_≡_, refl, ap, _∙_}
 use mathlib.Core.Logic.{inl, inr, _↔_}
-use mathlib.Core.Bool.{true, false, cond, not}
+use mathlib.Core.Bool.{true}
 use mathlib.Core.List.{List, [], _∷_}
 use mathlib.Core.List as list
-use native.Mathlib.Omega.{arith}
-use native.Mathlib.Nat.{div-eq-of-lt, pow-le-pow-right}
-use lib.Dec.{T, eqb}
+use lib.Dec.{T}
 use Rattle.document.specs.Lists.{In}
 use Rattle.document.specs.Limits.{width}
-use Rattle.document.specs.Positions.{holds}
-use Rattle.document.specs.Combinations.{bindsFrom, bindsExactly, zeroPast}
+use Rattle.document.specs.Combinations.{zeroPast}
 use Rattle.document.specs.Histories.{Event, slice, IsBinding, joinAll, Made}
 use Rattle.document.specs.OneEvent.{Kept}
-use Rattle.document.specs.Property.{Property, inRange, setOf, stateAfter, hopeful}
+use Rattle.document.specs.Property.{Property, inRange, stateAfter, hopeful}
 use Rattle.document.specs.Session.{Session, seenOf, keptOf, keeps}
 use Rattle.document.specs.Demands.{Lists, itself, SeenIn, KeptIn, Proper, Holds}
-use Rattle.slices.specs.TestsLaws.{so, and-of, of-and}
 use Rattle.slices.specs.CombinationsLaws.{zeroPast-empty, zeroPast-join}
 use Rattle.slices.specs.OrderLaws.{Ascends, ascending-of, of-ascending, combinations}
 use Rattle.slices.specs.JoinSeenLaws.{OfWidth}
@@ -27,28 +23,9 @@ use Rattle.slices.specs.HistoriesLaws.{bindings, is-binding, in-slice, l
 use Rattle.slices.specs.SeenLaws.{Sees}
 use Rattle.slices.specs.OneEventLaws.{Follows}
 use Rattle.slices.specs.PropertyLaws.{ranges, stateAfter-range}
+use Rattle.slices.specs.ProperLaws.{proper-zeroPast}
 use Rattle.slices.specs.HopefulLaws.{hopeful-right}
 use Rattle.slices.specs.SessionLaws.{Fits, seenOf-with, keptOf-with}
-
--- A binding of an event is 0 past the parameters -----------------------------------------------------------------------
-
--- a set below 2 ^ n holds nothing from n on
-holds-past : (s n j : ℕ) → s < 2 ^ n → n ≤ j → holds s j ≡ false
-holds-past s n j h k =
-    let up : 2 ^ n ≤ 2 ^ j = pow-le-pow-right (omega arith) k in
-    let low : s < 2 ^ j = omega arith in
-    rw (div-eq-of-lt low) refl
-
-binds-zeroPast : (n k s : ℕ) (c : List ℕ) → ((j : ℕ) → k + n ≤ j → holds s j ≡ false) → T (bindsFrom k s c) → T (zeroPast n c)
-unfolding bindsFrom zeroPast
-binds-zeroPast n k s [] f t = tt
-binds-zeroPast zero k s (x ∷ c) f t =
-    let h = and-of (cond (holds s k) (not (eqb x 0)) (eqb x 0)) (bindsFrom (suc k) s c) t in
-    of-and (eqb x 0) (zeroPast zero c) (rw (f k (omega arith)) at (h .0))
-    (binds-zeroPast zero (suc k) s c (λ j l. f j (omega arith)) (h .1))
-binds-zeroPast (suc n) k s (x ∷ c) f t =
-    let h = and-of (cond (holds s k) (not (eqb x 0)) (eqb x 0)) (bindsFrom (suc k) s c) t in
-    binds-zeroPast n (suc k) s c (λ j l. f j (omega arith)) (h .1)
 
 -- The history ----------------------------------------------------------------------------------------------------------
 
@@ -64,14 +41,7 @@ module _ (p : Property) (r : inRange p ≡ true) (H : List Event) (f : ProperHis
   slice-range c = stateAfter-range p (ranges p r) (slice c H) (λ e i. let m = in-slice c H e i in rw (m .2) (f (m .0) (m .1) .declared))
 
   pub binding-zeroPast : (b : List ℕ) → IsBinding H b → T (zeroPast (p .parameters) b)
-  unfolding bindsExactly
-  binding-zeroPast b m =
-      let e = m .event .event in
-      let h = f (m .event) (m .accepted) in
-      let below : setOf p e < 2 ^ (p .parameters) = ranges p r .sets e (h .declared) in
-      let none : (j : ℕ) → 0 + p .parameters ≤ j → holds (setOf p e) j ≡ false =
-      λ j l. holds-past (setOf p e) (p .parameters) j below (omega arith) in
-      rw (← m .is) (binds-zeroPast (p .parameters) 0 (setOf p e) (m .event .binding) none (so (h .values)))
+  binding-zeroPast b m = rw (← m .is) (proper-zeroPast p r (m .event .event) (m .event .binding) (f (m .event) (m .accepted)))
 
   pub made-zeroPast : (c : List ℕ) → Made width H c → T (zeroPast (p .parameters) c)
   made-zeroPast c m = rw (m .is) (all (m .bindings) (λ b i. binding-zeroPast b (m .from b i)))

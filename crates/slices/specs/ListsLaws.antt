@@ -1,8 +1,8 @@
 -- Members of lists: of an append, of the members that pass a test, of a map, of the numbers tabulated; and lists in which
 -- nothing stands twice.
 -- Assumes nothing.
-use Prim.Native.Nat.{ℕ, zero, suc, _<_}
-use mathlib.Core.Path.{_≡_, refl, ap, _∙_}
+use Prim.Native.Nat.{ℕ, zero, suc, _<_, _≤_}
+use mathlib.Core.Path.{_≡_, refl, sym, ap, subst, _∙_}
 use mathlib.Core.Logic.{_⊎_, inl, inr, _↔_}
 use mathlib.Core.Bool.{Bool}
 use mathlib.Core.List.{List, [], _∷_, _++_}
@@ -49,6 +49,18 @@ in-keepIf p (x ∷ l) a =
       )
     ]
 
+pub length-keepIf : {A : Type 0} (p : A → Bool) (l : List A) → length (keepIf p l) ≤ length l
+unfolding keepIf
+length-keepIf p [] = omega arith
+length-keepIf p (x ∷ l) =
+    let h = length-keepIf p l in
+    elim (either (p x)) [ inl e ↦ rw e (omega arith) | inr e ↦ rw e (omega arith) ]
+
+pub keepIf-append : {A : Type 0} (p : A → Bool) (l m : List A) → keepIf p (l ++ m) ≡ keepIf p l ++ keepIf p m
+unfolding keepIf
+keepIf-append p [] m = refl
+keepIf-append p (x ∷ l) m = elim (either (p x)) [ inl e ↦ rw (e, keepIf-append p l m) | inr e ↦ rw (e, keepIf-append p l m) ]
+
 -- b is what f makes of some member
 pub record Image {A B : Type 0} (f : A → B) (l : List A) (b : B) : Type 0 where
   pub of : A
@@ -91,6 +103,18 @@ pub tabulate-same : {A : Type 0} (n : ℕ) (f g : ℕ → A) → ((k : ℕ) → 
 unfolding tabulate
 tabulate-same zero f g h = refl
 tabulate-same (suc n) f g h = rw (h 0, tabulate-same n (λ k. f (suc k)) (λ k. g (suc k)) (λ k. h (suc k)))
+
+-- what holds of all the values holds of the members
+pub tabulate-all : {A : Type 0} (n : ℕ) (f : ℕ → A) (P : A → Type 0) → ((k : ℕ) → P (f k)) → (x : A) → In x (tabulate n f) → P x
+unfolding tabulate
+tabulate-all zero f P h x i = absurd i
+tabulate-all (suc n) f P h x (inl q) = subst P (sym q) (h 0)
+tabulate-all (suc n) f P h x (inr i) = tabulate-all n (λ k. f (suc k)) P (λ k. h (suc k)) x i
+
+pub map-tabulate : {A B : Type 0} (g : A → B) (n : ℕ) (f : ℕ → A) → list.map g (tabulate n f) ≡ tabulate n (λ k. g (f k))
+unfolding tabulate
+map-tabulate g zero f = refl
+map-tabulate g (suc n) f = rw (map-tabulate g n (λ k. f (suc k)))
 
 -- nothing stands twice
 abbrev pub Distinct : {A : Type 0} → List A → Type 0

@@ -19,7 +19,7 @@ use Rattle.slices.specs.ListsLaws.{in-map, map-in, Distinct}
 
 -- The order ------------------------------------------------------------------------------------------------------------
 
-precedes-of : (x y : ℕ) (a b : List ℕ) → T (precedes (x ∷ a) (y ∷ b)) → (x < y) ⊎ ((x ≡ y) × T (precedes a b))
+pub precedes-of : (x y : ℕ) (a b : List ℕ) → T (precedes (x ∷ a) (y ∷ b)) → (x < y) ⊎ ((x ≡ y) × T (precedes a b))
 unfolding precedes
 precedes-of x y a b t =
     elim (or-of (ltb x y) (eqb x y && precedes a b) t) [
@@ -27,7 +27,7 @@ precedes-of x y a b t =
       | inr h ↦ let p = and-of (eqb x y) (precedes a b) h in inr (eqb→eq x y (p .0), p .1)
     ]
 
-of-precedes : (x y : ℕ) (a b : List ℕ) → (x < y) ⊎ ((x ≡ y) × T (precedes a b)) → T (precedes (x ∷ a) (y ∷ b))
+pub of-precedes : (x y : ℕ) (a b : List ℕ) → (x < y) ⊎ ((x ≡ y) × T (precedes a b)) → T (precedes (x ∷ a) (y ∷ b))
 unfolding precedes
 of-precedes x y a b (inl h) = of-or (ltb x y) (eqb x y && precedes a b) (inl (lt→ltb x y h))
 of-precedes x y a b (inr h) =
@@ -55,7 +55,7 @@ precedes-trans (x ∷ a) (y ∷ b) (z ∷ c) s t =
       ]
     ])
 
-less-same-more : (x y : ℕ) → (x < y) ⊎ ((x ≡ y) ⊎ (y < x))
+pub less-same-more : (x y : ℕ) → (x < y) ⊎ ((x ≡ y) ⊎ (y < x))
 less-same-more x y =
     elim (decLt x y) [ yes h ↦ inl h | no h ↦ elim (decLt y x) [ yes k ↦ inr (inr k) | no k ↦ inr (inl (omega arith)) ] ]
 
@@ -137,20 +137,20 @@ ascends-unique f (x ∷ l) (y ∷ m) p q g =
 -- Putting in order -----------------------------------------------------------------------------------------------------
 
 -- one row put before or after the first
-insertSeen-after : (b x : List ℕ) (l : List (List ℕ)) → precedes x b ≡ true → insertSeen b (x ∷ l) ≡ x ∷ insertSeen b l
+pub insertSeen-after : (b x : List ℕ) (l : List (List ℕ)) → precedes x b ≡ true → insertSeen b (x ∷ l) ≡ x ∷ insertSeen b l
 unfolding insertSeen
 insertSeen-after b x l e = rw (insertSeen, e)
 
-insertSeen-here : (b x : List ℕ) (l : List (List ℕ)) → precedes x b ≡ false → insertSeen b (x ∷ l) ≡ b ∷ x ∷ l
+pub insertSeen-here : (b x : List ℕ) (l : List (List ℕ)) → precedes x b ≡ false → insertSeen b (x ∷ l) ≡ b ∷ x ∷ l
 unfolding insertSeen
 insertSeen-here b x l e = rw (insertSeen, e)
 
-insertKept-after : (r x : Kept) (l : List Kept) → precedes (x .combination) (r .combination) ≡ true
+pub insertKept-after : (r x : Kept) (l : List Kept) → precedes (x .combination) (r .combination) ≡ true
     → insertKept r (x ∷ l) ≡ x ∷ insertKept r l
 unfolding insertKept
 insertKept-after r x l e = rw (insertKept, e)
 
-insertKept-here : (r x : Kept) (l : List Kept) → precedes (x .combination) (r .combination) ≡ false
+pub insertKept-here : (r x : Kept) (l : List Kept) → precedes (x .combination) (r .combination) ≡ false
     → insertKept r (x ∷ l) ≡ r ∷ x ∷ l
 unfolding insertKept
 insertKept-here r x l e = rw (insertKept, e)
@@ -191,7 +191,7 @@ abbrev pub combinations : List Kept → List (List ℕ)
 combinations l = list.map (λ (k : Kept). k .combination) l
 
 -- rows of kept combinations go where their combinations go
-insertKept-combinations : (r : Kept) (l : List Kept) → combinations (insertKept r l) ≡ insertSeen (r .combination) (combinations l)
+pub insertKept-combinations : (r : Kept) (l : List Kept) → combinations (insertKept r l) ≡ insertSeen (r .combination) (combinations l)
 unfolding insertKept insertSeen
 insertKept-combinations r [] = refl
 insertKept-combinations r (x ∷ l) =

@@ -4,17 +4,17 @@
 use Prim.Native.Nat.{ℕ}
 use mathlib.Core.Path.{_≡_, refl, sym, ap, _∙_}
 use mathlib.Core.Logic.{_⊎_, inl, inr, _↔_}
-use mathlib.Core.Bool.{Bool, true, false, _||_}
 use mathlib.Core.List.{List, [], _∷_, _++_}
 use lib.ListN.{length}
-use Rattle.document.specs.Lists.{In, equal, among}
+use Rattle.document.specs.Lists.{In, equal}
 use Rattle.document.specs.Combinations.{emptyOf}
 use Rattle.document.specs.Histories.{Event, IsBinding}
-use Rattle.document.specs.OneEvent.{joinSeen, insertSeen, see}
-use Rattle.slices.specs.TestsLaws.{so, not-so, either, or-of, of-or, equal-of, of-equal, among-of}
+use Rattle.document.specs.OneEvent.{joinSeen, see}
+use Rattle.slices.specs.TestsLaws.{so, not-so, either, equal-of, of-equal}
 use Rattle.slices.specs.ListsLaws.{in-more, in-more-old, in-more-new}
-use Rattle.slices.specs.OrderLaws.{Ascends, in-insertSeen, insertSeen-ascends}
 use Rattle.slices.specs.JoinSeenLaws.{OfWidth, joinSeen-same}
+use Rattle.slices.specs.SeeLaws.{in-see}
+pub use Rattle.slices.specs.SeeLaws.{see-ascends}
 use Rattle.slices.specs.HistoriesLaws.{bindings, is-binding, joinOf}
 
 -- b is the binding of the last event or an earlier one's
@@ -43,49 +43,16 @@ module _ (w : ℕ) where
         | inr e ↦ inr (s x .1 (is-binding H x .0 i, λ q. not-so e (of-equal x (emptyOf w) q)))
       ])
 
-  -- b is empty or seen already
-  abbrev old : List ℕ → List (List ℕ) → Bool
-  old b seen = equal b (emptyOf w) || among b seen
-
-  see-old : (b : List ℕ) (seen : List (List ℕ)) → old b seen ≡ true → see w b seen ≡ seen
-  unfolding see
-  see-old b seen e = rw e
-
-  see-new : (b : List ℕ) (seen : List (List ℕ)) → old b seen ≡ false → see w b seen ≡ insertSeen b seen
-  unfolding see
-  see-new b seen e = rw e
-
   pub see-sees : (H : List Event) (seen : List (List ℕ)) (h : Event) → Sees H seen → Sees (H ++ (h ∷ [])) (see w (h .binding) seen)
   see-sees H seen h s x =
       let b = h .binding in
-      let last : IsBinding (H ++ (h ∷ [])) b = record { event = h; accepted = in-more-new H h; is = refl } in
-      elim (either (old b seen)) [
-        | inl e ↦ rw (see-old b seen e) (
-          (λ i. let f = s x .0 i in (binding-old H h x (f .0), f .1)),
-          (λ f. elim (binding-more H h x (f .0)) [
-            | inl m ↦ s x .1 (m, f .1)
-            | inr q ↦ elim (or-of (equal b (emptyOf w)) (among b seen) (so e)) [
-              | inl t ↦ absurd (f .1 (q ∙ equal-of b (emptyOf w) t))
-              | inr t ↦ rw q (among-of b seen .0 t)
-            ]
-          ]),
-        )
-        | inr e ↦ rw (see-new b seen e) (
-          (λ i. elim (in-insertSeen b seen x .0 i) [
-            | inl q ↦ rw q (last, λ z. not-so e (of-or (equal b (emptyOf w)) (among b seen) (inl (of-equal b (emptyOf w) z))))
-            | inr j ↦ let f = s x .0 j in (binding-old H h x (f .0), f .1)
-          ]),
-          (λ f. in-insertSeen b seen x .1 (elim (binding-more H h x (f .0)) [
-            | inl m ↦ inr (s x .1 (m, f .1))
-            | inr q ↦ inl q
-          ])),
-        )
-      ]
-
-  pub see-ascends : (b : List ℕ) (seen : List (List ℕ)) → Ascends seen → Ascends (see w b seen)
-  see-ascends b seen a =
-      elim (either (old b seen)) [
-        | inl e ↦ rw (see-old b seen e) a
-        | inr e ↦ rw (see-new b seen e) (insertSeen-ascends b seen a (λ i.
-            not-so e (of-or (equal b (emptyOf w)) (among b seen) (inr (among-of b seen .1 i)))))
-      ]
+      let last : IsBinding (H ++ (h ∷ [])) b = record { event = h; accepted = in-more-new H h; is = refl } in (
+        (λ i. elim (in-see w b seen x .0 i) [
+          | inl j ↦ let f = s x .0 j in (binding-old H h x (f .0), f .1)
+          | inr f ↦ (rw (f .0) last, f .1)
+        ]),
+        (λ f. in-see w b seen x .1 (elim (binding-more H h x (f .0)) [
+          | inl m ↦ inl (s x .1 (m, f .1))
+          | inr q ↦ inr (q, f .1)
+        ])),
+      )

@@ -25,11 +25,11 @@ pub record Fits (s : Session) (seen : List (List ℕ)) (kept : List Kept) : Type
   pub keptRows : length kept ≤ keptRoom (s .kept)
 
 -- a table holds its room
-seenRoom-holds : (t : List ℕ) → seenRoom t * seenStride ≤ length t
+pub seenRoom-holds : (t : List ℕ) → seenRoom t * seenStride ≤ length t
 unfolding seenRoom
 seenRoom-holds t = omega arith
 
-keptRoom-holds : (t : List ℕ) → keptRoom t * keptStride ≤ length t
+pub keptRoom-holds : (t : List ℕ) → keptRoom t * keptStride ≤ length t
 unfolding keptRoom
 keptRoom-holds t = omega arith
 

@@ -22,7 +22,7 @@ use Rattle.slices.specs.JoinSeenLaws.{OfWidth}
 
 -- Rows one after another -----------------------------------------------------------------------------------------------
 
-numbersAt-drop : (n : ℕ) (t : List ℕ) (k at : ℕ) → numbersAt n t (k + at) ≡ numbersAt n (drop k t) at
+pub numbersAt-drop : (n : ℕ) (t : List ℕ) (k at : ℕ) → numbersAt n t (k + at) ≡ numbersAt n (drop k t) at
 unfolding numbersAt
 numbersAt-drop zero t k at = refl
 numbersAt-drop (suc n) t k at =
@@ -102,7 +102,7 @@ length-joinedUp w (r ∷ rows) o =
 abbrev pub zeros : ℕ → List ℕ
 zeros n = replicate n 0
 
-length-zeros : (n : ℕ) → length (zeros n) ≡ n
+pub length-zeros : (n : ℕ) → length (zeros n) ≡ n
 length-zeros n = length-replicate n 0
 
 all-zero : (n : ℕ) → T (every (λ x. eqb x 0) (zeros n))

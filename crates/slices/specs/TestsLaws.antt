@@ -53,6 +53,9 @@ pub of-and : (a b : Bool) → T a → T b → T (a && b)
 of-and true b s t = t
 of-and false b s t = absurd s
 
+pub both : (a b : Bool) → a && b ≡ true → (a ≡ true) × (b ≡ true)
+both a b e = let h = and-of a b (so e) in (true-of a (h .0), true-of b (h .1))
+
 pub or-of : (a b : Bool) → T (a || b) → T a ⊎ T b
 or-of true b t = inl tt
 or-of false b t = inr t
@@ -98,6 +101,13 @@ unfolding every
 of-every p [] f = tt
 of-every p (x ∷ l) f = of-and (p x) (every p l) (f x (inl refl)) (of-every p l (λ y i. f y (inr i)))
 
+pub every-of : {A : Type 0} (p : A → Bool) (l : List A) → T (every p l) → (x : A) → In x l → T (p x)
+unfolding every
+every-of p [] t x i = absurd i
+every-of p (y ∷ l) t x i =
+    let h = and-of (p y) (every p l) t in
+    elim i [ inl q ↦ rw q (h .0) | inr j ↦ every-of p l (h .1) x j ]
+
 pub everyBelow-of : (n : ℕ) (p : ℕ → Bool) → T (everyBelow n p) → (k : ℕ) → k < n → T (p k)
 unfolding everyBelow
 everyBelow-of zero p t k h = absurd (omega arith)
@@ -107,6 +117,11 @@ everyBelow-of (suc n) p t k h =
       | yes e ↦ rw e (both .0)
       | no e ↦ everyBelow-of n p (both .1) k (omega arith)
     ]
+
+pub of-everyBelow : (n : ℕ) (p : ℕ → Bool) → ((k : ℕ) → k < n → T (p k)) → T (everyBelow n p)
+unfolding everyBelow
+of-everyBelow zero p f = tt
+of-everyBelow (suc n) p f = of-and (p n) (everyBelow n p) (f n (omega arith)) (of-everyBelow n p (λ k h. f k (omega arith)))
 
 pub someBelow-of : (n : ℕ) (p : ℕ → Bool) → T (someBelow n p) → (k : ℕ) × (k < n) × T (p k)
 unfolding someBelow

@@ -48,7 +48,7 @@ add-more : tie.Need-add-more Inv-loop μ-loop
 add-more c = omega (arith, digit-of _ _ (c .before .is-digit .ensures) (c .if3 .left))
 
 returns-4 : tie.Need-returns-4 Inv-loop μ-loop
-returns-4 c = search (needs, digits-large)
+returns-4 c = digits-large _ _ _ (c .before .before .before .before .before .loop .inv) (c .before .before .before .before .loop-test .taken) (search needs)
 
 add-i : tie.Need-add-i Inv-loop μ-loop
 add-i c = search needs

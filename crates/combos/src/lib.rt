@@ -1,0 +1,318 @@
+// Combinations, and rows of them in lent tables (document 01, "Words", "One event"). A combination is WIDTH numbers by
+// value; a table is the caller's numbers, row after row. Nothing above this crate speaks of single numbers of a row.
+// Interior: the crates `judge` and `session` stand on it.
+ghost use mathlib.Core.Path.{_≡_};
+ghost use mathlib.Core.Bool.{_&&_, _||_, not, cond};
+ghost use Prim.Native.Nat.{ℕ, _+_, _*_, _^_, _<_, _≤_};
+ghost use lib.ListN.{length, getD};
+ghost use lib.Dec.{eqb};
+ghost use Rattle.document.specs.Lists.{equal, among};
+ghost use Rattle.document.specs.Limits.{width, seenStride, keptStride};
+ghost use Rattle.document.specs.Positions.{holds};
+ghost use Rattle.document.specs.Combinations.{emptyOf, includes, compatible, join, precedes, bindsExactly, zeroPast};
+ghost use Rattle.document.specs.Tables.{numbersAt, seenRows};
+ghost use Rattle.combos.specs.Restrictions.{restricted};
+ghost use Rattle.combos.specs.Rows.{Searchable, Parted, SeenInOrder};
+ghost use Rattle.combos.specs.Writes.{Raised, Pasted, SeenInserted, Put, Inserted, ZeroIn};
+
+// Numbers of a combination, one a parameter; document 02 changes it, with `Limits.width`.
+pub const WIDTH: usize = 4;
+
+// Numbers in a row of the seen table, and in a row of the kept table or of the reports.
+pub const SEEN_STRIDE: usize = WIDTH;
+
+pub const KEPT_STRIDE: usize = WIDTH + 1;
+
+pub type Combination = [u32; WIDTH];
+
+// One number of a combination against one of another --------------------------------------------------------------------
+
+// Whether x agrees with y where y is bound.
+fn agrees(x: u32, y: u32) -> bool
+    ensures { λ r. ⌜ r ≡ (eqb y 0 || eqb x y) ⌝ }
+{
+    if y == 0 {
+        return true;
+    }
+    x == y
+}
+
+// Whether x and y agree where both are bound.
+fn suits(x: u32, y: u32) -> bool
+    ensures { λ r. ⌜ r ≡ (eqb x 0 || eqb y 0 || eqb x y) ⌝ }
+{
+    if x == 0 {
+        return true;
+    }
+    agrees(x, y)
+}
+
+// What either binds.
+fn either(x: u32, y: u32) -> u32
+    ensures { λ r. ⌜ r ≡ cond (eqb x 0) y x ⌝ }
+{
+    if x == 0 {
+        return y;
+    }
+    x
+}
+
+// Whether a set of numbers, as bits, holds k.
+pub fn in_set(set: u64, k: usize) -> bool
+    requires { ⌜ k < 64 ⌝ }
+    ensures { λ r. ⌜ r ≡ holds set k ⌝ }
+{
+    (set >> k) % 2 == 1
+}
+
+// Whether x is bound exactly if k is in the set.
+fn bound_as(set: u64, k: usize, x: u32) -> bool
+    requires { ⌜ k < 64 ⌝ }
+    ensures { λ r. ⌜ r ≡ cond (holds set k) (not (eqb x 0)) (eqb x 0) ⌝ }
+{
+    if in_set(set, k) {
+        return x != 0;
+    }
+    x == 0
+}
+
+// x where k is in the set, else unbound.
+fn if_in(set: u64, k: usize, x: u32) -> u32
+    requires { ⌜ k < 64 ⌝ }
+    ensures { λ r. ⌜ r ≡ cond (holds set k) x 0 ⌝ }
+{
+    if in_set(set, k) {
+        return x;
+    }
+    0
+}
+
+// Combinations ----------------------------------------------------------------------------------------------------------
+
+pub fn includes(c: Combination, b: Combination) -> bool
+    ensures { λ r. ⌜ r ≡ includes c b ⌝ }
+{
+    let mut j: usize = 0;
+    while j < WIDTH {
+        if !agrees(c[j], b[j]) {
+            return false;
+        }
+        j += 1;
+    }
+    true
+}
+
+pub fn compatible(c: Combination, b: Combination) -> bool
+    ensures { λ r. ⌜ r ≡ compatible c b ⌝ }
+{
+    let mut j: usize = 0;
+    while j < WIDTH {
+        if !suits(c[j], b[j]) {
+            return false;
+        }
+        j += 1;
+    }
+    true
+}
+
+pub fn equal(c: Combination, b: Combination) -> bool
+    ensures { λ r. ⌜ r ≡ equal c b ⌝ }
+{
+    let mut j: usize = 0;
+    while j < WIDTH {
+        if c[j] != b[j] {
+            return false;
+        }
+        j += 1;
+    }
+    true
+}
+
+pub fn precedes(c: Combination, b: Combination) -> bool
+    ensures { λ r. ⌜ r ≡ precedes c b ⌝ }
+{
+    let mut j: usize = 0;
+    while j < WIDTH {
+        let x = c[j];
+        let y = b[j];
+        if x < y {
+            return true;
+        }
+        if y < x {
+            return false;
+        }
+        j += 1;
+    }
+    false
+}
+
+pub fn join(c: Combination, b: Combination) -> Combination
+    ensures { λ r. ⌜ r ≡ join c b ⌝ }
+{
+    let mut out = c;
+    let mut j: usize = 0;
+    while j < WIDTH {
+        out[j] = either(c[j], b[j]);
+        j += 1;
+    }
+    out
+}
+
+pub fn is_empty(c: Combination) -> bool
+    ensures { λ r. ⌜ r ≡ equal c (emptyOf width) ⌝ }
+{
+    let none = [0u32; WIDTH];
+    equal(c, none)
+}
+
+// Whether the combination binds exactly the parameters of a set.
+pub fn binds_exactly(set: u64, c: Combination) -> bool
+    ensures { λ r. ⌜ r ≡ bindsExactly set c ⌝ }
+{
+    let mut j: usize = 0;
+    while j < WIDTH {
+        if !bound_as(set, j, c[j]) {
+            return false;
+        }
+        j += 1;
+    }
+    true
+}
+
+// Whether the numbers past the first n are 0.
+pub fn zero_past(n: usize, c: Combination) -> bool
+    ensures { λ r. ⌜ r ≡ zeroPast n c ⌝ }
+{
+    let mut j = n;
+    while j < WIDTH {
+        if c[j] != 0 {
+            return false;
+        }
+        j += 1;
+    }
+    true
+}
+
+// The combination that a row of a table begins with.
+pub fn row_at(t: &[u32], at: usize) -> Combination
+    requires { ⌜ at + width ≤ length (now t) ⌝ }
+    ensures { λ r. ⌜ r ≡ numbersAt width (now (t .entry)) at ⌝ }
+{
+    let mut out = [0u32; WIDTH];
+    let mut j: usize = 0;
+    while j < WIDTH {
+        out[j] = t[at + j];
+        j += 1;
+    }
+    out
+}
+
+// The parameters of a combination that are in a set, the others unbound.
+pub fn restricted(set: u64, c: Combination) -> Combination
+    ensures { λ r. ⌜ r ≡ restricted set c ⌝ }
+{
+    let mut out = [0u32; WIDTH];
+    let mut j: usize = 0;
+    while j < WIDTH {
+        out[j] = if_in(set, j, c[j]);
+        j += 1;
+    }
+    out
+}
+
+// Rows in order ---------------------------------------------------------------------------------------------------------
+
+// The first of n rows, the first of which begins at `base`, that does not precede c; or n.
+pub fn place(t: &[u32], base: usize, stride: usize, n: usize, c: Combination) -> usize
+    requires { ⌜ Searchable base stride n (now t) ⌝ }
+    ensures { λ r. ⌜ Parted base stride n (now (t .entry)) c r ⌝ }
+{
+    let mut low: usize = 0;
+    let mut high = n;
+    while low < high {
+        let middle = low + (high - low) / 2;
+        if precedes(row_at(t, base + middle * stride), c) {
+            low = middle + 1;
+        } else {
+            high = middle;
+        }
+    }
+    low
+}
+
+// Whether one of the first n seen rows is c.
+pub fn seen_holds(seen: &[u32], n: usize, c: Combination) -> bool
+    requires { ⌜ SeenInOrder n (now seen) ⌝ }
+    ensures { λ r. ⌜ r ≡ among c (seenRows n (now (seen .entry))) ⌝ }
+{
+    let at = place(seen, 0, SEEN_STRIDE, n, c);
+    if n <= at {
+        return false;
+    }
+    equal(c, row_at(seen, at * SEEN_STRIDE))
+}
+
+// Rows written ----------------------------------------------------------------------------------------------------------
+
+// Moves the numbers from place a up to n up by some places.
+fn raise(t: &mut [u32], a: usize, n: usize, by: usize)
+    requires { ⌜ (a ≤ n) × (0 < by) × (n + by ≤ length (now t)) ⌝ }
+    ensures { λ _. ⌜ Raised by a n (now (t .entry)) (now (t .exit)) ⌝ }
+{
+    let mut p = n;
+    while a < p {
+        p -= 1;
+        t[p + by] = t[p];
+    }
+}
+
+// Writes a combination from a place on.
+fn write(t: &mut [u32], at: usize, c: Combination)
+    requires { ⌜ at + width ≤ length (now t) ⌝ }
+    ensures { λ _. ⌜ Pasted width at c (now (t .entry)) (now (t .exit)) ⌝ }
+{
+    let mut j: usize = 0;
+    while j < WIDTH {
+        t[at + j] = c[j];
+        j += 1;
+    }
+}
+
+// Puts a seen row in at a place of the first n numbers; those from there on move up.
+pub fn insert_seen(t: &mut [u32], n: usize, at: usize, c: Combination)
+    requires { ⌜ (at ≤ n) × (n + seenStride ≤ length (now t)) ⌝ }
+    ensures { λ _. ⌜ SeenInserted at n c (now (t .entry)) (now (t .exit)) ⌝ }
+{
+    raise(t, at, n, SEEN_STRIDE);
+    write(t, at, c);
+}
+
+// Writes a combination and a number after it from a place on.
+pub fn write_kept(t: &mut [u32], at: usize, c: Combination, s: u32)
+    requires { ⌜ at + keptStride ≤ length (now t) ⌝ }
+    ensures { λ _. ⌜ Put at c s (now (t .entry)) (now (t .exit)) ⌝ }
+{
+    write(t, at, c);
+    t[at + WIDTH] = s;
+}
+
+// Puts a row with its last number in at a place, before the first n numbers' end; those from there on move up.
+pub fn insert_kept(t: &mut [u32], n: usize, at: usize, c: Combination, s: u32)
+    requires { ⌜ (at ≤ n) × (n + keptStride ≤ length (now t)) ⌝ }
+    ensures { λ _. ⌜ Inserted at n c s (now (t .entry)) (now (t .exit)) ⌝ }
+{
+    raise(t, at, n, KEPT_STRIDE);
+    write_kept(t, at, c, s);
+}
+
+// Writes 0 from a place up to another.
+pub fn clear(t: &mut [u32], from: usize, to: usize)
+    requires { ⌜ to ≤ length (now t) ⌝ }
+    ensures { λ _. ⌜ ZeroIn from to (now (t .entry)) (now (t .exit)) ⌝ }
+{
+    let mut p = from;
+    while p < to {
+        t[p] = 0;
+        p += 1;
+    }
+}

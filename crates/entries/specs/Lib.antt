@@ -1,0 +1,4 @@
+pub mod Entries
+pub mod ValuesLaws
+pub mod EntriesLaws
+pub mod RowLaws

@@ -1,0 +1,4 @@
+pub mod Sound
+pub mod RowsLaws
+pub mod JoinLaws
+pub mod SoundLaws

@@ -1,0 +1,298 @@
+// The session check, refusal 12 (document 01, "Numbers of refusal"), alone, and the join of the seen rows that a combination
+// includes ("One event"). It compares in place and alters nothing. Above `combos`.
+ghost use mathlib.Core.Path.{_≡_};
+ghost use mathlib.Core.Bool.{true, not, _&&_};
+ghost use Prim.Native.Nat.{ℕ, _+_, _*_, _<_, _≤_};
+ghost use lib.ListN.{length};
+ghost use Rattle.document.specs.Lists.{every, equal};
+ghost use Rattle.document.specs.Limits.{width, seenStride, keptStride, mostStates};
+ghost use Rattle.document.specs.Positions.{holds};
+ghost use Rattle.document.specs.Combinations.{emptyOf, zeroPast};
+ghost use Rattle.document.specs.OneEvent.{joinSeen};
+ghost use Rattle.document.specs.Tables.{seenRows, keptRows, seenRoom, keptRoom};
+ghost use Rattle.document.specs.Session.{ascending, zeroBetween};
+ghost use Rattle.combos.specs.Rows.{SeenInOrder};
+ghost use Rattle.judge.specs.Sound.{rightlyKeptBy, soundBy, sessionOf, rowsOf, Rows};
+ghost use Rattle.judge.specs.RowsLaws.{notEmpty};
+ghost use Rattle.judge.specs.JoinLaws.{gathered, coversAt, Joins};
+ghost use Rattle.judge.specs.SoundLaws.{seenStands, keptStands};
+use combos::Combination;
+use combos::KEPT_STRIDE;
+use combos::SEEN_STRIDE;
+use combos::WIDTH;
+
+// "at most 1,024 rows", "at most 3,000 rows" ("One event").
+pub const MOST_SEEN: usize = 1024;
+
+pub const MOST_KEPT: usize = 3000;
+
+// Sets of parameters, as bits.
+const SETS: u64 = 1 << WIDTH;
+
+// Joins of seen rows ----------------------------------------------------------------------------------------------------
+
+// The join so far, with the restriction of c to one set of parameters more if that is seen.
+fn gather(acc: Combination, set: u64, c: Combination, seen: &[u32], n: usize) -> Combination
+    requires { ⌜ SeenInOrder n (now seen) ⌝ }
+    ensures { λ r. ⌜ r ≡ gathered set c (seenRows n (now (seen .entry))) acc ⌝ }
+{
+    let part = combos::restricted(set, c);
+    if !combos::binds_exactly(set, part) {
+        return acc;
+    }
+    if combos::includes(acc, part) {
+        return acc;
+    }
+    if !combos::seen_holds(seen, n, part) {
+        return acc;
+    }
+    combos::join(acc, part)
+}
+
+// The join of the seen rows that c includes.
+pub fn join_seen(c: Combination, seen: &[u32], n: usize) -> Combination
+    requires { ⌜ SeenInOrder n (now seen) ⌝ }
+    ensures { λ r. ⌜ r ≡ joinSeen width c (seenRows n (now (seen .entry))) ⌝ }
+{
+    let mut acc = [0u32; WIDTH];
+    let mut set = SETS;
+    while 0 < set {
+        set -= 1;
+        let next = gather(acc, set, c, seen, n);
+        acc = next;
+    }
+    acc
+}
+
+// Whether k includes the restriction of c to one set of parameters, if that is seen.
+fn covers(k: Combination, set: u64, c: Combination, seen: &[u32], n: usize) -> bool
+    requires { ⌜ SeenInOrder n (now seen) ⌝ }
+    ensures { λ r. ⌜ r ≡ coversAt set c k (seenRows n (now (seen .entry))) ⌝ }
+{
+    let part = combos::restricted(set, c);
+    if !combos::binds_exactly(set, part) {
+        return true;
+    }
+    if combos::includes(k, part) {
+        return true;
+    }
+    !combos::seen_holds(seen, n, part)
+}
+
+// Whether the join of the seen rows that c includes is k, where k is such a join and c includes it: one seen row that c
+// includes and k does not refutes it.
+pub fn joins_to(c: Combination, k: Combination, seen: &[u32], n: usize) -> bool
+    requires { ⌜ SeenInOrder n (now seen) × Joins n (now seen) c k ⌝ }
+    ensures { λ r. ⌜ r ≡ equal (joinSeen width c (seenRows n (now (seen .entry)))) k ⌝ }
+{
+    let mut set = SETS;
+    while 0 < set {
+        set -= 1;
+        if !covers(k, set, c, seen, n) {
+            return false;
+        }
+    }
+    true
+}
+
+// Clauses of the check --------------------------------------------------------------------------------------------------
+
+// Whether the combination of each row precedes the next row's.
+fn rows_ascend(t: &[u32], stride: usize, n: usize) -> bool
+    requires { ⌜ Rows stride n (now t) ⌝ }
+    ensures { λ r. ⌜ r ≡ ascending (rowsOf stride n (now (t .entry))) ⌝ }
+{
+    let mut i: usize = 1;
+    while i < n {
+        let low = combos::row_at(t, (i - 1) * stride);
+        let high = combos::row_at(t, i * stride);
+        if !combos::precedes(low, high) {
+            return false;
+        }
+        i += 1;
+    }
+    true
+}
+
+// Whether no seen row is empty.
+fn rows_bound(t: &[u32], n: usize) -> bool
+    requires { ⌜ n * seenStride ≤ length (now t) ⌝ }
+    ensures { λ r. ⌜ r ≡ every notEmpty (rowsOf seenStride n (now (t .entry))) ⌝ }
+{
+    let mut i: usize = 0;
+    while i < n {
+        if combos::is_empty(combos::row_at(t, i * SEEN_STRIDE)) {
+            return false;
+        }
+        i += 1;
+    }
+    true
+}
+
+// Whether the numbers of each row past the parameters are 0.
+fn rows_within(t: &[u32], stride: usize, n: usize, parameters: usize) -> bool
+    requires { ⌜ Rows stride n (now t) ⌝ }
+    ensures { λ r. ⌜ r ≡ every (zeroPast parameters) (rowsOf stride n (now (t .entry))) ⌝ }
+{
+    let mut i: usize = 0;
+    while i < n {
+        if !combos::zero_past(parameters, combos::row_at(t, i * stride)) {
+            return false;
+        }
+        i += 1;
+    }
+    true
+}
+
+// Whether the numbers from a place up to another are 0.
+fn zero_between(t: &[u32], from: usize, to: usize) -> bool
+    requires { ⌜ to ≤ length (now t) ⌝ }
+    ensures { λ r. ⌜ r ≡ zeroBetween from to (now (t .entry)) ⌝ }
+{
+    let mut p = from;
+    while p < to {
+        if t[p] != 0 {
+            return false;
+        }
+        p += 1;
+    }
+    true
+}
+
+fn wide(x: u32) -> usize
+    ensures { λ r. ⌜ r ≡ x ⌝ }
+{
+    x as usize
+}
+
+// Whether a state is one of the states and hopeful, and a combination the join of the seen rows that it includes.
+fn rightly_kept(
+    c: Combination,
+    state: usize,
+    states: usize,
+    hopeful: u64,
+    seen: &[u32],
+    n: usize,
+) -> bool
+    requires { ⌜ (states ≤ mostStates) × SeenInOrder n (now seen) ⌝ }
+    ensures { λ r. ⌜ r ≡ rightlyKeptBy states (holds hopeful) (seenRows n (now (seen .entry))) (record { combination = c; state = state }) ⌝ }
+{
+    if states <= state {
+        return false;
+    }
+    if !combos::in_set(hopeful, state) {
+        return false;
+    }
+    combos::equal(join_seen(c, seen, n), c)
+}
+
+// The same of each kept row.
+fn rows_rightly_kept(
+    kept: &[u32],
+    m: usize,
+    states: usize,
+    hopeful: u64,
+    seen: &[u32],
+    n: usize,
+) -> bool
+    requires { ⌜ (m * keptStride ≤ length (now kept)) × (states ≤ mostStates) × SeenInOrder n (now seen) ⌝ }
+    ensures { λ r. ⌜ r ≡ every (rightlyKeptBy states (holds hopeful) (seenRows n (now (seen .entry)))) (keptRows m (now (kept .entry))) ⌝ }
+{
+    let mut i: usize = 0;
+    while i < m {
+        let at = i * KEPT_STRIDE;
+        let c = combos::row_at(kept, at);
+        let state = wide(kept[at + WIDTH]);
+        if !rightly_kept(c, state, states, hopeful, seen, n) {
+            return false;
+        }
+        i += 1;
+    }
+    true
+}
+
+// Rooms -----------------------------------------------------------------------------------------------------------------
+
+// "Room is the smaller of that limit and the whole rows lent".
+pub fn seen_room(t: &[u32]) -> usize
+    ensures { λ r. ⌜ (r ≡ seenRoom (now (t .entry))) × (r * seenStride ≤ length (now (t .entry))) ⌝ }
+{
+    let rows = t.len() / SEEN_STRIDE;
+    if MOST_SEEN <= rows {
+        return MOST_SEEN;
+    }
+    rows
+}
+
+pub fn kept_room(t: &[u32]) -> usize
+    ensures { λ r. ⌜ (r ≡ keptRoom (now (t .entry))) × (r * keptStride ≤ length (now (t .entry))) ⌝ }
+{
+    let rows = t.len() / KEPT_STRIDE;
+    if MOST_KEPT <= rows {
+        return MOST_KEPT;
+    }
+    rows
+}
+
+// The check -------------------------------------------------------------------------------------------------------------
+
+// Whether the seen table stands by itself: its count is within the room, its rows ascend, none is empty, none binds a number
+// past the parameters, and the room past them is 0.
+fn seen_stands(seen: &[u32], n: usize, parameters: usize) -> bool
+    ensures { λ r. ⌜ r ≡ seenStands parameters n (now (seen .entry)) ⌝ }
+{
+    let room = seen_room(seen);
+    if room < n {
+        return false;
+    }
+    if !rows_ascend(seen, SEEN_STRIDE, n) {
+        return false;
+    }
+    if !rows_bound(seen, n) {
+        return false;
+    }
+    if !rows_within(seen, SEEN_STRIDE, n, parameters) {
+        return false;
+    }
+    zero_between(seen, n * SEEN_STRIDE, room * SEEN_STRIDE)
+}
+
+// The same of the kept table, whose rows may be empty.
+fn kept_stands(kept: &[u32], m: usize, parameters: usize) -> bool
+    ensures { λ r. ⌜ r ≡ keptStands parameters m (now (kept .entry)) ⌝ }
+{
+    let room = kept_room(kept);
+    if room < m {
+        return false;
+    }
+    if !rows_ascend(kept, KEPT_STRIDE, m) {
+        return false;
+    }
+    if !rows_within(kept, KEPT_STRIDE, m, parameters) {
+        return false;
+    }
+    zero_between(kept, m * KEPT_STRIDE, room * KEPT_STRIDE)
+}
+
+// Whether the session is taken; where not, it is refused 12. It takes the counts of parameters and states and the hopeful
+// states, as bits, of a property that is taken.
+pub fn sound(
+    parameters: usize,
+    states: usize,
+    hopeful: u64,
+    seen: &[u32],
+    n: usize,
+    kept: &[u32],
+    m: usize,
+) -> bool
+    requires { ⌜ states ≤ mostStates ⌝ }
+    ensures { λ r. ⌜ r ≡ soundBy parameters states (holds hopeful) (sessionOf n m (now (seen .entry)) (now (kept .entry))) ⌝ }
+{
+    if !seen_stands(seen, n, parameters) {
+        return false;
+    }
+    if !kept_stands(kept, m, parameters) {
+        return false;
+    }
+    rows_rightly_kept(kept, m, states, hopeful, seen, n)
+}

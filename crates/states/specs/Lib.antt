@@ -1,0 +1,5 @@
+pub mod Growing
+pub mod StepLaws
+pub mod RowLaws
+pub mod GrowLaws
+pub mod TableLaws
