@@ -6,6 +6,7 @@ use batch::read;
 use batch::write;
 use memory::Memory;
 
+mod declarations;
 mod input;
 mod memory;
 mod properties;
@@ -80,6 +81,10 @@ fn answer_only(
     let on_texts = texts::answer(word, s, at, out, filled);
     if on_texts.next != read::STUCK {
         return on_texts;
+    }
+    let on_declarations = declarations::answer(word, s, at, out, filled);
+    if on_declarations.next != read::STUCK {
+        return on_declarations;
     }
     let on_properties = properties::answer(word, s, at, out, filled);
     if on_properties.next != read::STUCK {
