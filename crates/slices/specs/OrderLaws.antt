@@ -137,20 +137,20 @@ ascends-unique f (x ∷ l) (y ∷ m) p q g =
 -- Putting in order -----------------------------------------------------------------------------------------------------
 
 -- one row put before or after the first
-insertSeen-after : (b x : List ℕ) (l : List (List ℕ)) → precedes x b ≡ true → insertSeen b (x ∷ l) ≡ x ∷ insertSeen b l
+pub insertSeen-after : (b x : List ℕ) (l : List (List ℕ)) → precedes x b ≡ true → insertSeen b (x ∷ l) ≡ x ∷ insertSeen b l
 unfolding insertSeen
 insertSeen-after b x l e = rw (insertSeen, e)
 
-insertSeen-here : (b x : List ℕ) (l : List (List ℕ)) → precedes x b ≡ false → insertSeen b (x ∷ l) ≡ b ∷ x ∷ l
+pub insertSeen-here : (b x : List ℕ) (l : List (List ℕ)) → precedes x b ≡ false → insertSeen b (x ∷ l) ≡ b ∷ x ∷ l
 unfolding insertSeen
 insertSeen-here b x l e = rw (insertSeen, e)
 
-insertKept-after : (r x : Kept) (l : List Kept) → precedes (x .combination) (r .combination) ≡ true
+pub insertKept-after : (r x : Kept) (l : List Kept) → precedes (x .combination) (r .combination) ≡ true
     → insertKept r (x ∷ l) ≡ x ∷ insertKept r l
 unfolding insertKept
 insertKept-after r x l e = rw (insertKept, e)
 
-insertKept-here : (r x : Kept) (l : List Kept) → precedes (x .combination) (r .combination) ≡ false
+pub insertKept-here : (r x : Kept) (l : List Kept) → precedes (x .combination) (r .combination) ≡ false
     → insertKept r (x ∷ l) ≡ r ∷ x ∷ l
 unfolding insertKept
 insertKept-here r x l e = rw (insertKept, e)
@@ -191,7 +191,7 @@ abbrev pub combinations : List Kept → List (List ℕ)
 combinations l = list.map (λ (k : Kept). k .combination) l
 
 -- rows of kept combinations go where their combinations go
-insertKept-combinations : (r : Kept) (l : List Kept) → combinations (insertKept r l) ≡ insertSeen (r .combination) (combinations l)
+pub insertKept-combinations : (r : Kept) (l : List Kept) → combinations (insertKept r l) ≡ insertSeen (r .combination) (combinations l)
 unfolding insertKept insertSeen
 insertKept-combinations r [] = refl
 insertKept-combinations r (x ∷ l) =
