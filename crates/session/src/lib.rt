@@ -1,0 +1,2 @@
+// A session over lent tables (document 01, "One event").
+ghost use mathlib.Core.Path.{_≡_};
