@@ -9,8 +9,8 @@ use lib.ListN.{getD}
 use Rattle.document.specs.Lists.{consIf, equal, among}
 use Rattle.document.specs.Limits.{width, mostEvents}
 use Rattle.document.specs.Positions.{holds}
-use Rattle.document.specs.Combinations.{emptyOf, includes}
-use Rattle.document.specs.OneEvent.{Kept, insertKept, moves, movedFrom, see, keptAfter, reportsAfter}
+use Rattle.document.specs.Combinations.{emptyOf, includes, compatible, join}
+use Rattle.document.specs.OneEvent.{Kept, joinSeen, insertKept, moves, movedFrom, see, keptAfter, reportsAfter}
 use Rattle.document.specs.Session.{Outcome}
 
 -- b is neither empty nor seen yet
@@ -64,3 +64,7 @@ outcomeBy next hopes asks seen kept e b = record {
   kept = keptAfter width (stepOf next) e b seen (stateIn hopes) kept;
   rows = reportsAfter width (stepOf next) e b seen (stateIn asks) kept;
 }
+
+-- "c moves", by the combination of its row alone
+unfoldable pub movesAt : List ℕ → List (List ℕ) → List ℕ → Bool
+movesAt b seen k = compatible b k && equal (joinSeen width (join b k) seen) k

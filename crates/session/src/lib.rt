@@ -1,2 +1,165 @@
 // A session over lent tables (document 01, "One event").
 ghost use mathlib.Core.Path.{_≡_};
+ghost use mathlib.Core.Bool.{true, false, not, _&&_};
+ghost use mathlib.Core.List.{List};
+ghost use Prim.Native.Nat.{ℕ, _+_, _-_, _*_, _<_, _≤_};
+ghost use lib.ListN.{length, getD, drop};
+ghost use Rattle.document.specs.Limits.{width, seenStride, keptStride, mostEvents, mostStates};
+ghost use Rattle.document.specs.Positions.{holds};
+ghost use Rattle.document.specs.Combinations.{includes};
+ghost use Rattle.document.specs.OneEvent.{keptAfter, reportsAfter};
+ghost use Rattle.document.specs.Tables.{seenRows, keptRows, seenRoom, keptRoom, reportRoom, seenTable, keptTable};
+ghost use Rattle.combos.specs.Rows.{SeenInOrder};
+ghost use Rattle.session.specs.Steps.{isNew, stepOf, stateIn, movesAt};
+ghost use Rattle.session.specs.Tables.{rowAt, keptFrom, Enterable, Entered};
+ghost use Rattle.session.specs.EventLaws.{one};
+ghost use Rattle.session.specs.Ready.{Onward, Binds, Joint, Keeps, Ready, RowReady};
+ghost use Rattle.session.specs.Rows.{weightOf, movedWeight};
+
+use combos::Combination;
+
+use combos::KEPT_STRIDE;
+
+use combos::SEEN_STRIDE;
+
+use combos::WIDTH;
+
+const MOST_EVENTS: usize = 16;
+
+fn wide(x: u32) -> usize
+    ensures { λ r. ⌜ r ≡ x ⌝ }
+{
+    x as usize
+}
+
+fn number(x: u8) -> u32
+    ensures { λ r. ⌜ r ≡ x ⌝ }
+{
+    x as u32
+}
+
+fn one(test: bool) -> usize
+    ensures { λ r. ⌜ r ≡ one test ⌝ }
+{
+    if test {
+        return 1;
+    }
+    0
+}
+
+// What is worked out once for a property and then used at each event: its counts, and its hopeful states and those whose
+// verdict is asked for, as bits.
+pub struct Known {
+    pub parameters: usize,
+    pub states: usize,
+    pub hopeful: u64,
+    pub asked: u64,
+}
+
+// What a kept row adds to the kept rows after an event, and to its reports.
+pub struct Weight {
+    pub kept: usize,
+    pub reported: usize,
+}
+
+// The state that an event leads to.
+fn next_state(next: &[u8; 1024], s: u32, e: usize) -> u32
+    requires { ⌜ (s < mostStates) × (e < mostEvents) ⌝ }
+    ensures { λ r. ⌜ r ≡ stepOf (now (next .entry)) s e ⌝ }
+{
+    let at = wide(s) * MOST_EVENTS + e;
+    number(next[at])
+}
+
+// Whether the binding is neither empty nor seen.
+fn is_new(b: Combination, seen: &[u32], n: usize) -> bool
+    requires { ⌜ SeenInOrder n (now seen) ⌝ }
+    ensures { λ r. ⌜ r ≡ isNew b (seenRows n (now (seen .entry))) ⌝ }
+{
+    if combos::is_empty(b) {
+        return false;
+    }
+    !combos::seen_holds(seen, n, b)
+}
+
+// Whether the row of a combination that does not include the binding moves. A binding that is not new creates nothing.
+fn creates(fresh: bool, b: Combination, k: Combination, seen: &[u32], n: usize) -> bool
+    requires { ⌜ Binds n (now seen) b fresh × Joint n (now seen) k × (includes k b ≡ false) ⌝ }
+    ensures { λ r. ⌜ r ≡ movesAt b (seenRows n (now (seen .entry))) k ⌝ }
+{
+    if !fresh {
+        return false;
+    }
+    if !combos::compatible(b, k) {
+        return false;
+    }
+    judge::joins_to(combos::join(b, k), k, seen, n)
+}
+
+// Whether the row of a combination moves: in place where it includes the binding.
+fn moves(fresh: bool, b: Combination, k: Combination, seen: &[u32], n: usize) -> bool
+    requires { ⌜ Binds n (now seen) b fresh × Joint n (now seen) k ⌝ }
+    ensures { λ r. ⌜ r ≡ movesAt b (seenRows n (now (seen .entry))) k ⌝ }
+{
+    if combos::includes(k, b) {
+        return true;
+    }
+    creates(fresh, b, k, seen, n)
+}
+
+// Puts a row in among n rows in order, the first of which begins at `base`.
+fn enter(t: &mut [u32], base: usize, n: usize, c: Combination, s: u32)
+    requires { ⌜ Enterable base n (now t) ⌝ }
+    ensures { λ _. ⌜ Entered base n c s (now (t .entry)) (now (t .exit)) ⌝ }
+{
+    let at = combos::place(t, base, KEPT_STRIDE, n, c);
+    combos::insert_kept(t, base + n * KEPT_STRIDE, base + at * KEPT_STRIDE, c, s);
+}
+
+// Working the outcome out -----------------------------------------------------------------------------------------------
+
+// What a row that moves to a state adds.
+fn moved_weight(to: u32, hopeful: u64, asked: u64) -> Weight
+    requires { ⌜ to < mostStates ⌝ }
+    ensures { λ r. ⌜ r ≡ movedWeight hopeful asked to ⌝ }
+{
+    Weight {
+        kept: one(bits::has(hopeful, wide(to))),
+        reported: one(bits::has(asked, wide(to))),
+    }
+}
+
+// What kept row i adds.
+fn weigh(
+    next: &[u8; 1024],
+    known: Known,
+    seen: &[u32],
+    n: usize,
+    kept: &[u32],
+    i: usize,
+    e: usize,
+    b: Combination,
+    fresh: bool,
+) -> Weight
+    requires { ⌜ RowReady (now next) (known .states) e n i b (now seen) (now kept) fresh ⌝ }
+    ensures { λ r. ⌜ r ≡ weightOf (now (next .entry)) (known .hopeful) (known .asked) e b (seenRows n (now (seen .entry))) (rowAt (now (kept .entry)) (i * keptStride)) ⌝ }
+{
+    let at = i * KEPT_STRIDE;
+    let k = combos::row_at(kept, at);
+    if combos::includes(k, b) {
+        let to = next_state(next, kept[at + WIDTH], e);
+        return moved_weight(to, known.hopeful, known.asked);
+    }
+    if !creates(fresh, b, k, seen, n) {
+        return Weight {
+            kept: 1,
+            reported: 0,
+        };
+    }
+    let to = next_state(next, kept[at + WIDTH], e);
+    let w = moved_weight(to, known.hopeful, known.asked);
+    Weight {
+        kept: w.kept + 1,
+        reported: w.reported,
+    }
+}
