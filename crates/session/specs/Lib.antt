@@ -5,3 +5,5 @@ pub mod TablesLaws
 pub mod Ready
 pub mod Rows
 pub mod RowsLaws
+pub mod Foreseen
+pub mod ForeseenLaws

@@ -6,10 +6,10 @@ use mathlib.Core.Bool.{Bool, true, false}
 use mathlib.Core.List.{List}
 use lib.ListN.{length, getD}
 use Rattle.document.specs.Lists.{In}
-use Rattle.document.specs.Limits.{width, keptStride, mostEvents, mostStates}
+use Rattle.document.specs.Limits.{width, seenStride, keptStride, mostEvents, mostStates}
 use Rattle.document.specs.Combinations.{includes}
 use Rattle.document.specs.OneEvent.{Kept, joinSeen}
-use Rattle.document.specs.Tables.{seenRows}
+use Rattle.document.specs.Tables.{seenRows, seenRoom, keptRoom}
 use Rattle.slices.specs.OrderLaws.{Ascends, combinations}
 use Rattle.combos.specs.Rows.{SeenInOrder}
 use Rattle.session.specs.Steps.{isNew, stepOf, stateIn, grows}
@@ -52,3 +52,14 @@ pub record RowReady (next : List ℕ) (states e n i : ℕ) (b seen kept : List �
   pub inside : (i + 1) * keptStride ≤ length kept
   pub right : Right (seenRows n seen) (rowAt kept (i * keptStride))
   pub within : getD kept (i * keptStride + width) 0 < states
+
+-- The whole: the tables lie within their rooms, which hold 0 past them ---------------------------------------------------
+
+pub record Steady (next : List ℕ) (states e n m : ℕ) (seen kept : List ℕ) : Type 0 where
+  pub moves : Onward next states e
+  pub table : SeenInOrder n seen
+  pub rows : Keeps states n m seen kept
+  pub seenFits : n ≤ seenRoom seen
+  pub keptFits : m ≤ keptRoom kept
+  pub seenZero : (k : ℕ) → n * seenStride ≤ k → k < seenRoom seen * seenStride → getD seen k 0 ≡ 0
+  pub keptZero : (k : ℕ) → m * keptStride ≤ k → k < keptRoom kept * keptStride → getD kept k 0 ≡ 0

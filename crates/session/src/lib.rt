@@ -13,7 +13,8 @@ ghost use Rattle.combos.specs.Rows.{SeenInOrder};
 ghost use Rattle.session.specs.Steps.{isNew, stepOf, stateIn, movesAt};
 ghost use Rattle.session.specs.Tables.{rowAt, keptFrom, Enterable, Entered};
 ghost use Rattle.session.specs.EventLaws.{one};
-ghost use Rattle.session.specs.Ready.{Onward, Binds, Joint, Keeps, Ready, RowReady};
+ghost use Rattle.session.specs.Ready.{Onward, Binds, Joint, Keeps, Ready, RowReady, Steady};
+ghost use Rattle.session.specs.Foreseen.{tallyOf, roomRefusal, foreseenOf};
 ghost use Rattle.session.specs.Rows.{weightOf, movedWeight};
 
 use combos::Combination;
@@ -25,6 +26,13 @@ use combos::SEEN_STRIDE;
 use combos::WIDTH;
 
 const MOST_EVENTS: usize = 16;
+
+// Numbers of refusal.
+pub const NO_ROOM_FOR_SEEN: u8 = 15;
+
+pub const NO_ROOM_FOR_KEPT: u8 = 16;
+
+pub const NO_ROOM_FOR_REPORTS: u8 = 17;
 
 fn wide(x: u32) -> usize
     ensures { λ r. ⌜ r ≡ x ⌝ }
@@ -39,7 +47,7 @@ fn number(x: u8) -> u32
 }
 
 fn one(test: bool) -> usize
-    ensures { λ r. ⌜ r ≡ one test ⌝ }
+    ensures { λ r. ⌜ (r ≡ one test) × (r ≤ 1) ⌝ }
 {
     if test {
         return 1;
@@ -60,6 +68,23 @@ pub struct Known {
 pub struct Weight {
     pub kept: usize,
     pub reported: usize,
+}
+
+// Rows that there is room for.
+pub struct Rooms {
+    pub seen: usize,
+    pub kept: usize,
+    pub reports: usize,
+}
+
+// What an event comes to: the refusal for want of room, or 0; the rows of both tables after it; its reports; and whether its
+// binding is neither empty nor seen.
+pub struct Foreseen {
+    pub refusal: u8,
+    pub seen: usize,
+    pub kept: usize,
+    pub reported: usize,
+    pub fresh: bool,
 }
 
 // The state that an event leads to.
@@ -161,5 +186,95 @@ fn weigh(
     Weight {
         kept: w.kept + 1,
         reported: w.reported,
+    }
+}
+
+// The kept rows after the event, and its reports, counted.
+fn tally(
+    next: &[u8; 1024],
+    known: Known,
+    seen: &[u32],
+    n: usize,
+    kept: &[u32],
+    m: usize,
+    e: usize,
+    b: Combination,
+    fresh: bool,
+) -> Weight
+    requires { ⌜ Ready (now next) (known .states) e n m b (now seen) (now kept) fresh ⌝ }
+    ensures { λ r. ⌜ r ≡ tallyOf (now (next .entry)) (known .hopeful) (known .asked) e b (seenRows n (now (seen .entry))) (keptFrom m (now (kept .entry)) 0) ⌝ }
+{
+    let mut keeps: usize = 0;
+    let mut reported: usize = 0;
+    let mut i: usize = 0;
+    while i < m {
+        let w = weigh(next, known, seen, n, kept, i, e, b, fresh);
+        keeps += w.kept;
+        reported += w.reported;
+        i += 1;
+    }
+    Weight {
+        kept: keeps,
+        reported,
+    }
+}
+
+// How many reports there is room for from a report number on.
+fn report_room(reports: &[u32], from: usize) -> usize
+    ensures { λ r. ⌜ r ≡ reportRoom (drop from (now (reports .entry))) ⌝ }
+{
+    if reports.len() <= from {
+        return 0;
+    }
+    (reports.len() - from) / KEPT_STRIDE
+}
+
+// The refusal for want of room, or 0.
+fn room_refusal(rooms: Rooms, seen: usize, kept: usize, reports: usize) -> u8
+    ensures { λ r. ⌜ r ≡ roomRefusal seen (rooms .seen) kept (rooms .kept) reports (rooms .reports) ⌝ }
+{
+    if rooms.seen < seen {
+        return NO_ROOM_FOR_SEEN;
+    }
+    if rooms.kept < kept {
+        return NO_ROOM_FOR_KEPT;
+    }
+    if rooms.reports < reports {
+        return NO_ROOM_FOR_REPORTS;
+    }
+    0
+}
+
+// What an event with this binding comes to in a session that is sound. Nothing is written.
+pub fn foresee(
+    next: &[u8; 1024],
+    known: Known,
+    seen: &[u32],
+    n: usize,
+    kept: &[u32],
+    m: usize,
+    reports: &[u32],
+    from: usize,
+    e: usize,
+    b: Combination,
+) -> Foreseen
+    requires { ⌜ Steady (now next) (known .states) e n m (now seen) (now kept) ⌝ }
+    ensures { λ r. ⌜ r ≡ foreseenOf (now (next .entry)) (known .hopeful) (known .asked) from n m (now (seen .entry)) (now (kept .entry)) (now (reports .entry)) e b ⌝ }
+{
+    let fresh = is_new(b, seen, n);
+    let w = tally(next, known, seen, n, kept, m, e, b, fresh);
+    let after = n + one(fresh);
+    let rooms = Rooms {
+        seen: judge::seen_room(seen),
+        kept: judge::kept_room(kept),
+        reports: report_room(reports, from),
+    };
+    let refusal = room_refusal(rooms, after, w.kept, w.reported);
+    Foreseen {
+        refusal,
+        seen: after,
+        kept: w.kept,
+        reported: w.reported,
+        fresh,
     }
 }
