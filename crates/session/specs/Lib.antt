@@ -7,3 +7,5 @@ pub mod Rows
 pub mod RowsLaws
 pub mod Foreseen
 pub mod ForeseenLaws
+pub mod Writing
+pub mod SiftLaws

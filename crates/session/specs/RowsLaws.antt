@@ -77,10 +77,13 @@ pub next-is : (next : List ℕ) (s e s′ r : ℕ) → s′ ≡ s → r ≡ getD
 unfolding stepOf
 next-is next s e s′ r p q = rw (← p) q
 
-pub moved-weight-is : (hopes asks to i j x y : ℕ) (f g : Bool) → i ≡ to → f ≡ holds hopes i → x ≡ one f → j ≡ to → g ≡ holds asks j → y ≡ one g
+pub moved-weight-is : (hopes asks to x y : ℕ) (f g : Bool) → f ≡ holds hopes to → x ≡ one f → g ≡ holds asks to → y ≡ one g
     → _≡_ {A = Weight} (record { kept = x; reported = y }) (movedWeight hopes asks to)
 unfolding movedWeight
-moved-weight-is hopes asks to i j x y f g p q r p′ q′ r′ = λ z. record { kept = (r ∙ ap one (q ∙ ap (holds hopes) p)) z; reported = (r′ ∙ ap one (q′ ∙ ap (holds asks) p′)) z }
+moved-weight-is hopes asks to x y f g q r q′ r′ = λ z. record { kept = (r ∙ ap one q) z; reported = (r′ ∙ ap one q′) z }
+
+pub is-among : (set s i : ℕ) (f : Bool) → i ≡ s → f ≡ holds set i → f ≡ holds set s
+is-among set s i f p q = q ∙ ap (holds set) p
 
 one-small : (b : Bool) → one b ≤ 1
 one-small true = omega arith

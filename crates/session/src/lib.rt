@@ -15,6 +15,7 @@ ghost use Rattle.session.specs.Tables.{rowAt, keptFrom, Enterable, Enter
 ghost use Rattle.session.specs.EventLaws.{one};
 ghost use Rattle.session.specs.Ready.{Onward, Binds, Joint, Keeps, Ready, RowReady, Steady};
 ghost use Rattle.session.specs.Foreseen.{tallyOf, roomRefusal, foreseenOf};
+ghost use Rattle.session.specs.Writing.{SettleReady, SettledRow, Siftable, Sifted, GrowReady, GrownRow, Growable, Grown};
 ghost use Rattle.session.specs.Rows.{weightOf, movedWeight};
 
 use combos::Combination;
@@ -53,6 +54,14 @@ fn one(test: bool) -> usize
         return 1;
     }
     0
+}
+
+// Whether a state is one of a set of states.
+fn is_among(states: u64, s: u32) -> bool
+    requires { ⌜ s < mostStates ⌝ }
+    ensures { λ r. ⌜ r ≡ holds states s ⌝ }
+{
+    bits::has(states, wide(s))
 }
 
 // What is worked out once for a property and then used at each event: its counts, and its hopeful states and those whose
@@ -149,8 +158,8 @@ fn moved_weight(to: u32, hopeful: u64, asked: u64) -> Weight
     ensures { λ r. ⌜ r ≡ movedWeight hopeful asked to ⌝ }
 {
     Weight {
-        kept: one(bits::has(hopeful, wide(to))),
-        reported: one(bits::has(asked, wide(to))),
+        kept: one(is_among(hopeful, to)),
+        reported: one(is_among(asked, to)),
     }
 }
 
@@ -277,4 +286,40 @@ pub fn foresee(
         reported: w.reported,
         fresh,
     }
+}
+
+// Writing it down -------------------------------------------------------------------------------------------------------
+
+// Row i as it stays or moves in place, written after o rows; or it is dropped. Answers how many rows there are then.
+fn settle(next: &[u8; 1024], known: Known, kept: &mut [u32], i: usize, o: usize, e: usize, b: Combination) -> usize
+    requires { ⌜ SettleReady (now next) (known .states) e i o b (now kept) ⌝ }
+    ensures { λ r. ⌜ SettledRow (now (next .entry)) (known .hopeful) e i o b (now (kept .entry)) (now (kept .exit)) r ⌝ }
+{
+    let at = i * KEPT_STRIDE;
+    let k = combos::row_at(kept, at);
+    let s = kept[at + WIDTH];
+    if !combos::includes(k, b) {
+        combos::write_kept(kept, o * KEPT_STRIDE, k, s);
+        return o + 1;
+    }
+    let to = next_state(next, s, e);
+    if !is_among(known.hopeful, to) {
+        return o;
+    }
+    combos::write_kept(kept, o * KEPT_STRIDE, k, to);
+    o + 1
+}
+
+// Every row, upwards. Answers how many are left.
+fn sift(next: &[u8; 1024], known: Known, kept: &mut [u32], m: usize, e: usize, b: Combination) -> usize
+    requires { ⌜ Siftable (now next) (known .states) e m b (now kept) ⌝ }
+    ensures { λ r. ⌜ Sifted (now (next .entry)) (known .hopeful) e m b (now (kept .entry)) (now (kept .exit)) r ⌝ }
+{
+    let mut o: usize = 0;
+    let mut i: usize = 0;
+    while i < m {
+        o = settle(next, known, kept, i, o, e, b);
+        i += 1;
+    }
+    o
 }
