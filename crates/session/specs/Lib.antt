@@ -9,3 +9,4 @@ pub mod Foreseen
 pub mod ForeseenLaws
 pub mod Writing
 pub mod SiftLaws
+pub mod GrowLaws

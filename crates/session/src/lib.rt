@@ -323,3 +323,61 @@ fn sift(next: &[u8; 1024], known: Known, kept: &mut [u32], m: usize, e: usize, b
     }
     o
 }
+
+// Row i of m, below rows that are written: the combination that the binding creates from it is put in above it. Answers how
+// many rows there are then.
+fn grow_row(
+    next: &[u8; 1024],
+    known: Known,
+    seen: &[u32],
+    n: usize,
+    kept: &mut [u32],
+    i: usize,
+    m: usize,
+    e: usize,
+    b: Combination,
+    fresh: bool,
+) -> usize
+    requires { ⌜ GrowReady (now next) (known .states) (known .hopeful) e n i m b (now seen) (now kept) fresh ⌝ }
+    ensures { λ r. ⌜ GrownRow (now (next .entry)) (known .hopeful) e n i m b (now (seen .entry)) (now (kept .entry)) (now (kept .exit)) r ⌝ }
+{
+    let at = i * KEPT_STRIDE;
+    let k = combos::row_at(kept, at);
+    if combos::includes(k, b) {
+        return m;
+    }
+    if !creates(fresh, b, k, seen, n) {
+        return m;
+    }
+    let to = next_state(next, kept[at + WIDTH], e);
+    if !is_among(known.hopeful, to) {
+        return m;
+    }
+    let c = combos::join(b, k);
+    enter(kept, at + KEPT_STRIDE, m - i - 1, c, to);
+    m + 1
+}
+
+// Every row, downwards: a combination that is created comes after the one that it is created from.
+fn grow(
+    next: &[u8; 1024],
+    known: Known,
+    seen: &[u32],
+    n: usize,
+    kept: &mut [u32],
+    m: usize,
+    e: usize,
+    b: Combination,
+    fresh: bool,
+) -> usize
+    requires { ⌜ Growable (now next) (known .states) (known .hopeful) e n m b (now seen) (now kept) fresh ⌝ }
+    ensures { λ r. ⌜ Grown (now (next .entry)) (known .hopeful) e n m b (now (seen .entry)) (now (kept .entry)) (now (kept .exit)) r ⌝ }
+{
+    let mut count = m;
+    let mut i = m;
+    while 0 < i {
+        i -= 1;
+        count = grow_row(next, known, seen, n, kept, i, count, e, b, fresh);
+    }
+    count
+}
