@@ -19,7 +19,7 @@ use Rattle.slices.specs.ListsLaws.{in-append, in-more, in-keepIf, in-map, map-i
 use Rattle.slices.specs.CombinationsLaws.{includes-refl, includes-trans, includes-antisym, includes-empty, includes-join, join-includes-left, join-includes-right, included-compatible, length-join}
 use Rattle.slices.specs.OrderLaws.{precedes-irrefl, precedes-trans, precedes-or, Ascends, ascends-distinct, combinations, in-insertSeen, insertSeen-ascends, insertKept-combinations, insertKept-after, insertKept-here, in-insertKept, in-inOrder, inOrder-ascends}
 use Rattle.slices.specs.JoinSeenLaws.{joinSeen-includes}
-use Rattle.session.specs.Steps.{isNew, inPlace, creates, settled, settles, sifted, grows, grownBy, grown}
+use Rattle.session.specs.Steps.{isNew, inPlace, creates, settled, settles, sifted, grows, grownBy, grown, reportedBy}
 
 -- Order ----------------------------------------------------------------------------------------------------------------
 
@@ -534,10 +534,7 @@ module _ (step : ℕ → ℕ → ℕ) (e : ℕ) (b : List ℕ) (seen : List (Lis
         ap inOrder q ∙ inOrder-more (keepIf keeps (moved width step e b seen l)) (to k)
         (subst (λ (z : List Kept). Distinct (combinations z)) q (keepIf-distinct (λ (r : Kept). r .combination) keeps (moved width step e b seen (l ++ (k ∷ []))) (moved-distinct (l ++ (k ∷ [])) a)))
 
-    unfoldable pub reportedBy : Kept → List Kept → List Kept
-    reportedBy k l = cond (may k && keeps (to k)) (insertKept (to k) l) l
-
-    pub reports-more : (l : List Kept) (k : Kept) → Ascends (combinations (l ++ (k ∷ []))) → reports (l ++ (k ∷ [])) ≡ reportedBy k (reports l)
+    pub reports-more : (l : List Kept) (k : Kept) → Ascends (combinations (l ++ (k ∷ []))) → reports (l ++ (k ∷ [])) ≡ reportedBy step e b seen keeps k (reports l)
     unfolding reportedBy
     reports-more l k a = elim (either (may k && keeps (to k))) [ inl h ↦ rw h (reports-in l k a h) | inr h ↦ rw h (reports-out l k h) ]
 

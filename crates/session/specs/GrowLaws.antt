@@ -127,7 +127,7 @@ ascends-back : (l m : List (List ℕ)) → Ascends (l ++ m) → Ascends m
 ascends-back [] m a = a
 ascends-back (x ∷ l) m a = ascends-back l m (a .1)
 
-kept-two : (i m : ℕ) (t : List ℕ) → i ≤ m → keptFrom m t 0 ≡ keptFrom i t 0 ++ keptFrom (m - i) t (i * keptStride)
+pub kept-two : (i m : ℕ) (t : List ℕ) → i ≤ m → keptFrom m t 0 ≡ keptFrom i t 0 ++ keptFrom (m - i) t (i * keptStride)
 kept-two i m t h =
     let q : i + (m - i) ≡ m = omega arith in
     ap (λ (x : ℕ). keptFrom x t 0) (sym q) ∙ kept-split i (m - i) t 0 ∙ ap (λ (x : ℕ). keptFrom i t 0 ++ keptFrom (m - i) t x) (zero-add (i * keptStride))

@@ -10,3 +10,4 @@ pub mod ForeseenLaws
 pub mod Writing
 pub mod SiftLaws
 pub mod GrowLaws
+pub mod ReportLaws

@@ -15,7 +15,7 @@ use Rattle.document.specs.Tables.{seenRows}
 use Rattle.slices.specs.OrderLaws.{Ascends, combinations}
 use Rattle.session.specs.Steps.{isNew, stepOf, stateIn, settles, settled, sifted, grows, grownBy, grown}
 use Rattle.session.specs.Tables.{rowAt, keptFrom}
-use Rattle.session.specs.EventLaws.{one, reportedBy}
+use Rattle.session.specs.EventLaws.{one}
 use Rattle.session.specs.declared.Weight.{Weight}
 
 -- what a row adds to the kept rows after the event, and to its reports

@@ -48,6 +48,11 @@ module _ (step : ℕ → ℕ → ℕ) (e : ℕ) (b : List ℕ) (seen : List (Lis
     grown [] = []
     grown (k ∷ l) = k ∷ grownBy k (grown l)
 
+  -- the reports so far, with the one that k makes
+  module _ (reported : Kept → Bool) where
+    unfoldable pub reportedBy : Kept → List Kept → List Kept
+    reportedBy k l = cond (moves width step e b seen k && reported (movedFrom width step e b seen k)) (insertKept (movedFrom width step e b seen k) l) l
+
 -- The tables of a property as the code is lent them --------------------------------------------------------------------
 
 unfoldable pub stepOf : List ℕ → ℕ → ℕ → ℕ

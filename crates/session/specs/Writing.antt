@@ -11,10 +11,11 @@ use Rattle.document.specs.Limits.{width, keptStride}
 use Rattle.document.specs.OneEvent.{Kept, keptAfter, reportsAfter, moves, movedFrom}
 use Rattle.document.specs.Tables.{seenRows, keptRows, keptRoom, keptTable}
 use Rattle.slices.specs.OrderLaws.{Ascends, combinations}
-use Rattle.session.specs.Steps.{stepOf, stateIn, settles, settled, sifted, grows, grownBy, grown}
+use Rattle.session.specs.Steps.{stepOf, stateIn, settles, settled, sifted, grows, grownBy, grown, reportedBy}
 use Rattle.session.specs.Tables.{rowAt, keptFrom}
 use Rattle.session.specs.EventLaws.{Right}
-use Rattle.session.specs.Ready.{Onward, Binds, Ready}
+use Rattle.session.specs.Ready.{Onward, Binds, Ready, RowReady}
+use Rattle.session.specs.Rows.{reportOf}
 
 -- Rows in place --------------------------------------------------------------------------------------------------------
 
@@ -73,3 +74,30 @@ pub record Growable (next : List ℕ) (states hopes e n m : ℕ) (b seen t : Lis
 pub record Grown (next : List ℕ) (hopes e n m : ℕ) (b seen t t′ : List ℕ) (r : ℕ) : Type 0 where
   pub rows : keptFrom r t′ 0 ≡ grown (stepOf next) e b (seenRows n seen) (stateIn hopes) (keptFrom m t 0)
   pub high : (k : ℕ) → r * keptStride ≤ k → getD t′ k 0 ≡ getD t k 0
+
+-- Reports --------------------------------------------------------------------------------------------------------------
+
+-- there are reports from a report number on, in order, and room for the one that row i may make
+pub record ReportReady (next : List ℕ) (states asks e n i from count : ℕ) (b seen kept t : List ℕ) (fresh : Bool) : Type 0 where
+  pub row : RowReady next states e n i b seen kept fresh
+  pub inside : from + count * keptStride ≤ length t
+  pub order : Ascends (combinations (keptFrom count t from))
+  pub room : (moves width (stepOf next) e b (seenRows n seen) (rowAt kept (i * keptStride))
+      && stateIn asks (movedFrom width (stepOf next) e b (seenRows n seen) (rowAt kept (i * keptStride)))) ≡ true → from + (count + 1) * keptStride ≤ length t
+
+pub record ReportedRow (next verdicts : List ℕ) (asks e n i from count : ℕ) (b seen kept t t′ : List ℕ) (r : ℕ) : Type 0 where
+  pub rows : (l : List Kept) → keptFrom count t from ≡ list.map (reportOf verdicts) l
+      → keptFrom r t′ from ≡ list.map (reportOf verdicts) (reportedBy (stepOf next) e b (seenRows n seen) (stateIn asks) (rowAt kept (i * keptStride)) l)
+  pub low : (k : ℕ) → k < from → getD t′ k 0 ≡ getD t k 0
+  pub high : (k : ℕ) → from + r * keptStride ≤ k → getD t′ k 0 ≡ getD t k 0
+  pub more : count ≤ r
+
+-- all rows
+pub record Reportable (next : List ℕ) (states asks e n m from : ℕ) (b seen kept t : List ℕ) (fresh : Bool) : Type 0 where
+  pub ready : Ready next states e n m b seen kept fresh
+  pub room : from + length (reportsAfter width (stepOf next) e b (seenRows n seen) (stateIn asks) (keptFrom m kept 0)) * keptStride ≤ length t
+
+pub record Reported (next verdicts : List ℕ) (asks e n m from : ℕ) (b seen kept t t′ : List ℕ) (r : ℕ) : Type 0 where
+  pub rows : keptFrom r t′ from ≡ list.map (reportOf verdicts) (reportsAfter width (stepOf next) e b (seenRows n seen) (stateIn asks) (keptFrom m kept 0))
+  pub low : (k : ℕ) → k < from → getD t′ k 0 ≡ getD t k 0
+  pub high : (k : ℕ) → from + r * keptStride ≤ k → getD t′ k 0 ≡ getD t k 0

@@ -15,7 +15,7 @@ ghost use Rattle.session.specs.Tables.{rowAt, keptFrom, Enterable, Enter
 ghost use Rattle.session.specs.EventLaws.{one};
 ghost use Rattle.session.specs.Ready.{Onward, Binds, Joint, Keeps, Ready, RowReady, Steady};
 ghost use Rattle.session.specs.Foreseen.{tallyOf, roomRefusal, foreseenOf};
-ghost use Rattle.session.specs.Writing.{SettleReady, SettledRow, Siftable, Sifted, GrowReady, GrownRow, Growable, Grown};
+ghost use Rattle.session.specs.Writing.{SettleReady, SettledRow, Siftable, Sifted, GrowReady, GrownRow, Growable, Grown, ReportReady, ReportedRow, Reportable, Reported};
 ghost use Rattle.session.specs.Rows.{weightOf, movedWeight};
 
 use combos::Combination;
@@ -378,6 +378,68 @@ fn grow(
     while 0 < i {
         i -= 1;
         count = grow_row(next, known, seen, n, kept, i, count, e, b, fresh);
+    }
+    count
+}
+
+// Kept row i: its report, if it moves and its new verdict is asked for, is put in among `count` reports from a report number
+// on. Answers how many there are then.
+fn report_row(
+    next: &[u8; 1024],
+    verdicts: &[u8; 64],
+    known: Known,
+    seen: &[u32],
+    n: usize,
+    kept: &[u32],
+    i: usize,
+    e: usize,
+    b: Combination,
+    fresh: bool,
+    reports: &mut [u32],
+    from: usize,
+    count: usize,
+) -> usize
+    requires { ⌜ ReportReady (now next) (known .states) (known .asked) e n i from count b (now seen) (now kept) (now reports) fresh ⌝ }
+    ensures { λ r. ⌜ ReportedRow (now (next .entry)) (now (verdicts .entry)) (known .asked) e n i from count b (now (seen .entry)) (now (kept .entry)) (now (reports .entry)) (now (reports .exit)) r ⌝ }
+{
+    let at = i * KEPT_STRIDE;
+    let k = combos::row_at(kept, at);
+    if !moves(fresh, b, k, seen, n) {
+        return count;
+    }
+    let to = next_state(next, kept[at + WIDTH], e);
+    if !is_among(known.asked, to) {
+        return count;
+    }
+    let c = combos::join(b, k);
+    let state = wide(to);
+    enter(reports, from, count, c, number(verdicts[state]));
+    count + 1
+}
+
+// Every kept row. Answers how many reports there are.
+fn report(
+    next: &[u8; 1024],
+    verdicts: &[u8; 64],
+    known: Known,
+    seen: &[u32],
+    n: usize,
+    kept: &[u32],
+    m: usize,
+    e: usize,
+    b: Combination,
+    fresh: bool,
+    reports: &mut [u32],
+    from: usize,
+) -> usize
+    requires { ⌜ Reportable (now next) (known .states) (known .asked) e n m from b (now seen) (now kept) (now reports) fresh ⌝ }
+    ensures { λ r. ⌜ Reported (now (next .entry)) (now (verdicts .entry)) (known .asked) e n m from b (now (seen .entry)) (now (kept .entry)) (now (reports .entry)) (now (reports .exit)) r ⌝ }
+{
+    let mut count: usize = 0;
+    let mut i: usize = 0;
+    while i < m {
+        count = report_row(next, verdicts, known, seen, n, kept, i, e, b, fresh, reports, from, count);
+        i += 1;
     }
     count
 }
