@@ -402,6 +402,7 @@ fn report_row(
     requires { ⌜ ReportReady (now next) (known .states) (known .asked) e n i from count b (now seen) (now kept) (now reports) fresh ⌝ }
     ensures { λ r. ⌜ ReportedRow (now (next .entry)) (now (verdicts .entry)) (known .asked) e n i from count b (now (seen .entry)) (now (kept .entry)) (now (reports .entry)) (now (reports .exit)) r ⌝ }
 {
+    let more = count + 1;
     let at = i * KEPT_STRIDE;
     let k = combos::row_at(kept, at);
     if !moves(fresh, b, k, seen, n) {
@@ -414,7 +415,7 @@ fn report_row(
     let c = combos::join(b, k);
     let state = wide(to);
     enter(reports, from, count, c, number(verdicts[state]));
-    count + 1
+    more
 }
 
 // Every kept row. Answers how many reports there are.

@@ -1,12 +1,14 @@
 -- `session::report_row` meets its contract: the report of the row, if it makes one, is put in in order.
 -- Assumes nothing.
-use native.Mathlib.Omega.{arith}
 use Rattle.session.specs.ReportLaws.{report-not, report-unasked, report-enterable, report-put}
 use Rattle.session.specs.RowsLaws.{row-joint, row-onward}
 use Prim.Native.Nat.{_-_}
 use borrow.Author.Needs.{needs}
 use Rattle.session.proofs.report_row.Statement.{statement}
 use Rattle.session.proofs.report_row.Tie as tie
+
+add-more : tie.Need-add-more
+add-more c = search needs
 
 mul-at : tie.Need-mul-at
 mul-at c = search needs
@@ -53,9 +55,6 @@ number-requires c κs = search needs
 enter-requires : tie.Need-enter-requires
 enter-requires c κs = search (needs, report-enterable)
 
-add-result : tie.Need-add-result
-add-result c = let i = c .before .before .before .before .before .before .before .before .before .before .before .before .before .before .before .before .before .before .pre .inside in let f = c .before .before .before .before .before .before .before .before .before .before .before .before .before .before .before .before .before .before .fits .count in omega arith
-
 same-length : tie.Need-same-length
 same-length c = search needs
 
@@ -66,6 +65,7 @@ pub report-row-spec : {M : Type 1} → statement M
 report-row-spec =
     tie.close
     (tie.spec
+    add-more
     mul-at
     row-at-requires
     moves-requires
@@ -81,6 +81,5 @@ report-row-spec =
     element-copy-out-number
     number-requires
     enter-requires
-    add-result
     same-length
     returns-3)
