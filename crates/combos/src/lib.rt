@@ -57,20 +57,12 @@ fn either(x: u32, y: u32) -> u32
     x
 }
 
-// Whether a set of numbers, as bits, holds k.
-pub fn in_set(set: u64, k: usize) -> bool
-    requires { ⌜ k < 64 ⌝ }
-    ensures { λ r. ⌜ r ≡ holds set k ⌝ }
-{
-    (set >> k) % 2 == 1
-}
-
 // Whether x is bound exactly if k is in the set.
 fn bound_as(set: u64, k: usize, x: u32) -> bool
     requires { ⌜ k < 64 ⌝ }
     ensures { λ r. ⌜ r ≡ cond (holds set k) (not (eqb x 0)) (eqb x 0) ⌝ }
 {
-    if in_set(set, k) {
+    if bits::has(set, k) {
         return x != 0;
     }
     x == 0
@@ -81,7 +73,7 @@ fn if_in(set: u64, k: usize, x: u32) -> u32
     requires { ⌜ k < 64 ⌝ }
     ensures { λ r. ⌜ r ≡ cond (holds set k) x 0 ⌝ }
 {
-    if in_set(set, k) {
+    if bits::has(set, k) {
         return x;
     }
     0

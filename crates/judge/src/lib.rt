@@ -180,7 +180,7 @@ fn rightly_kept(
     if states <= state {
         return false;
     }
-    if !combos::in_set(hopeful, state) {
+    if !bits::has(hopeful, state) {
         return false;
     }
     combos::equal(join_seen(c, seen, n), c)

@@ -6,14 +6,14 @@ use borrow.Author.Needs.{needs}
 use Rattle.combos.proofs.bound_as.Statement.{statement}
 use Rattle.combos.proofs.bound_as.Tie as tie
 
-in-set-requires : tie.Need-in-set-requires
-in-set-requires c κs = search needs
+has-requires : tie.Need-has-requires
+has-requires c κs = search needs
 
 returns : tie.Need-returns
-returns c = rw (sym (c .before .in-set .ensures) ∙ c .if1 .taken)
+returns c = rw (sym (c .before .has .ensures) ∙ c .if1 .taken)
 
 returns-2 : tie.Need-returns-2
-returns-2 c = rw (sym (c .before .in-set .ensures) ∙ c .if1 .left)
+returns-2 c = rw (sym (c .before .has .ensures) ∙ c .if1 .left)
 
 pub bound-as-spec : {M : Type 1} → statement M
-bound-as-spec = tie.close (tie.spec in-set-requires returns returns-2)
+bound-as-spec = tie.close (tie.spec has-requires returns returns-2)

@@ -9,8 +9,8 @@ use Rattle.judge.proofs.rightly_kept.Tie as tie
 returns : tie.Need-returns
 returns c = search (needs, rightly-range)
 
-in-set-requires : tie.Need-in-set-requires
-in-set-requires c κs = search needs
+has-requires : tie.Need-has-requires
+has-requires c κs = search needs
 
 returns-2 : tie.Need-returns-2
 returns-2 c = search (needs, rightly-hope)
@@ -27,4 +27,4 @@ returns-3 c = search (needs, rightly-join)
 pub rightly-kept-spec : {M : Type 1} → statement M
 rightly-kept-spec =
     tie.close
-    (tie.spec returns in-set-requires returns-2 join-seen-requires equal-requires returns-3)
+    (tie.spec returns has-requires returns-2 join-seen-requires equal-requires returns-3)

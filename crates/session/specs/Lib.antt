@@ -1,0 +1,13 @@
+pub mod Steps
+pub mod Tables
+pub mod EventLaws
+pub mod TablesLaws
+pub mod Ready
+pub mod Rows
+pub mod RowsLaws
+pub mod Foreseen
+pub mod ForeseenLaws
+pub mod Writing
+pub mod SiftLaws
+pub mod GrowLaws
+pub mod ReportLaws
