@@ -2,13 +2,14 @@
 -- Assumes nothing.
 use Prim.Native.Nat.{ℕ, zero, suc, _+_, _-_, _*_, _≤_, _<_}
 use mathlib.Core.Path.{_≡_, refl, sym, ap, ap₂, _∙_}
+use mathlib.Core.Logic.{inl, inr}
 use mathlib.Core.Bool.{Bool, true, false, not}
 use mathlib.Core.List.{List, [], _∷_}
 use lib.ListN.{length, take, drop}
 use lib.Dec.{eqb, ltb, lit≤}
 use native.Mathlib.Omega.{arith}
 use native.Mathlib.Numerals.{add-one}
-use borrow.Author.Tests.{eq-eqb, ne-eqb, lt-ltb, le-ltb, not-true, not-false}
+use borrow.Author.Tests.{eqb-true, eqb-false, eq-eqb, ne-eqb, lt-ltb, le-ltb, not-true, not-false}
 use Rattle.document.specs.Lists.{equal, placeOf}
 use Rattle.document.specs.Limits.{mostNames, mostOpen, mostEvents}
 use Rattle.document.specs.Refusals.{Refusal, notOfGrammar, undeclaredEvent, tooManyNames, tooDeep, number}
@@ -18,6 +19,7 @@ use Rattle.document.specs.Classes as byte
 use Rattle.document.specs.Patterns.{Pattern, epsilon, name, alternative, sequence, star, plus}
 use Rattle.document.specs.Tokens.{Token, word, mark, ask, noToken, Lexeme, isMarkOf, beginsAtom, offsetOf}
 use Rattle.document.specs.Reading.{Reading, read, stopped, nextIs, joinReading, marked, markedReading, closed, readName, moreAlternatives, moreRepetitions, atomOf, readAtomIn, readAlternative, readSequence, readRepetition, readAtom}
+use Rattle.rows.specs.RowsLaws.{split-bool}
 use Rattle.words.specs.Range.{tabulate-length}
 use Rattle.declared.specs.Readings.{namesAt, Inside}
 use Rattle.sets.specs.declared.Shape.{Shape}
@@ -28,7 +30,7 @@ use Rattle.tokens.specs.Lexing.{wordKind, endKind, beginsKind, lexemesAt}
 use Rattle.tokens.specs.Steps.{Begins, Looks}
 use Rattle.tokens.specs.StepsLaws.{mark-here, word-here, mark-missing, atom-test, step-past, step-fewer, offset-here}
 use Rattle.pattern.specs.declared.Part.{Part}
-use Rattle.pattern.specs.Parts.{Ready, Says, Goes, Answers, Marked, refusedAt}
+use Rattle.pattern.specs.Parts.{Ready, Says, Goes, Answers, Marked, Joined, takenAt, refusedAt}
 
 -- What an answer tells -------------------------------------------------------------------------------------------------
 
@@ -72,10 +74,17 @@ answers reader k s at n d r g h = record { goes = g; says = go }
 
 -- two parts, one after the other, make a pattern of both
 joined : (s : List ℕ) (F : Pattern → Pattern → Pattern) (S : Shape → Shape → Shape) → ((x y : Pattern) → S (shapeOf x) (shapeOf y) ≡ shapeOf (F x y))
-    → (a b : Part) (shape : Shape) (x : Pattern) (R : Reading) → a .shape ≡ shapeOf x → Says s R b → b .refusal ≡ 0 → shape ≡ S (a .shape) (b .shape)
-    → Says s (joinReading F x R) (record { refusal = 0; at = b .at; names = b .names; shape = shape })
-joined s F S law a b shape x (read y left n) g h z k = (refl, (h .1 .0, (h .1 .1 .0, k ∙ ap₂ S g (h .1 .1 .1) ∙ law x y)))
-joined s F S law a b shape x (stopped q left) g h z k = absurd (let m = number-some q in let e = h .0 in omega arith)
+    → (a b : Part) (x : Pattern) (R : Reading) → a .shape ≡ shapeOf x → Says s R b → b .refusal ≡ 0
+    → Says s (joinReading F x R) (takenAt (b .at) (b .names) (S (a .shape) (b .shape)))
+joined s F S law a b x (read y left n) g h z = (refl, (h .1 .0, (h .1 .1 .0, ap₂ S g (h .1 .1 .1) ∙ law x y)))
+joined s F S law a b x (stopped q left) g h z = absurd (let m = number-some q in let e = h .0 in omega arith)
+
+pub joined-stopped : (S : Shape → Shape → Shape) (a b : Part) → (b .refusal ≡ 0 → ⊥) → Joined S a b b
+joined-stopped S a b l = record { stopped = λ _. refl; taken = λ z. absurd (l z) }
+
+pub joined-taken : (S : Shape → Shape → Shape) (a b r : Part) (shape : Shape) → b .refusal ≡ 0 → shape ≡ S (a .shape) (b .shape)
+    → r ≡ takenAt (b .at) (b .names) shape → Joined S a b r
+joined-taken S a b r shape z k e = record { stopped = λ l. absurd (l z); taken = λ _. e ∙ ap (takenAt (b .at) (b .names)) k }
 
 -- where the second of two parts stops
 later-goes : (s : List ℕ) (at k : ℕ) (b r : Part) → Goes s k b → b .refusal ≡ 0 → at < k → length (lexemesAt s k) < length (lexemesAt s at)
@@ -119,19 +128,24 @@ module _ (D : List (List ℕ)) (s : List ℕ) (at n d : ℕ) (a : Part) (h : Ans
           let m = more-bar (λ k us. readAlternative D f d k us) (g .pattern) (a .names) (a .at) _ _ (mark-here s (a .at) t look byte.bar (lit≤ tt) (lit≤ tt) e) in
           rw (ap (moreAlternatives (λ k us. readAlternative D f d k us)) (g .is) ∙ m) (go (g .pattern) (g .shape) (hb .says f (omega arith)))
 
-      pub alternative-stopped : (b .refusal ≡ 0 → ⊥) → Answers (readAlternative D) 3 s at n d b
+      alternative-stopped : (b .refusal ≡ 0 → ⊥) → Answers (readAlternative D) 3 s at n d b
       alternative-stopped l = answers (readAlternative D) 3 s at n d b (stopped-goes s at b l) (λ f q.
           bar-says f b q (λ x _ hx. stops s b (joinReading alternative x) (λ q left. refl) (readAlternative D f d (a .names) (lexemesAt s (t .next))) hx l))
 
-      pub alternative-joined : (shape : Shape) → b .refusal ≡ 0 → shape ≡ eitherShape (a .shape) (b .shape)
-          → Answers (readAlternative D) 3 s at n d (record { refusal = 0; at = b .at; names = b .names; shape = shape })
-      alternative-joined shape y k =
+      alternative-taken : b .refusal ≡ 0 → Answers (readAlternative D) 3 s at n d (takenAt (b .at) (b .names) (eitherShape (a .shape) (b .shape)))
+      alternative-taken y =
           let p = h .goes .past z in
           let w = h .goes .fewer z in
           let o = step-past s (a .at) t look (λ i. omega arith) in
           let v = step-fewer s (a .at) t look (λ i. omega arith) in
           answers (readAlternative D) 3 s at n d _ (later-goes s at (t .next) b _ (hb .goes) y (omega arith) (omega arith) refl refl) (λ f q.
-          bar-says f _ q (λ x g hx. joined s alternative eitherShape either-shape a b shape x (readAlternative D f d (a .names) (lexemesAt s (t .next))) g hx y k))
+          bar-says f _ q (λ x g hx. joined s alternative eitherShape either-shape a b x (readAlternative D f d (a .names) (lexemesAt s (t .next))) g hx y))
+
+      pub alternative-joined : (r : Part) → Joined eitherShape a b r → Answers (readAlternative D) 3 s at n d r
+      alternative-joined r j = elim (split-bool (eqb (b .refusal) 0)) [
+        | inl y ↦ let o = eqb-true (b .refusal) 0 y in rw (j .taken o) (alternative-taken o)
+        | inr y ↦ let o = eqb-false (b .refusal) 0 y in rw (j .stopped o) (alternative-stopped o)
+      ]
 
 -- A sequence -----------------------------------------------------------------------------------------------------------
 
@@ -165,15 +179,20 @@ module _ (D : List (List ℕ)) (s : List ℕ) (at n d : ℕ) (a : Part) (h : Ans
           let m = more-begins (λ k us. readSequence D f d k us) (g .pattern) (a .names) _ (atom-test s (a .at) t look ∙ sym e ∙ not-false c i) in
           rw (ap (moreRepetitions (λ k us. readSequence D f d k us)) (g .is) ∙ m) (go (g .pattern) (g .shape) (hb .says f (omega arith)))
 
-      pub sequence-stopped : (b .refusal ≡ 0 → ⊥) → Answers (readSequence D) 2 s at n d b
+      sequence-stopped : (b .refusal ≡ 0 → ⊥) → Answers (readSequence D) 2 s at n d b
       sequence-stopped l = answers (readSequence D) 2 s at n d b (stopped-goes s at b l) (λ f q.
           beside-says f b q (λ x _ hx. stops s b (joinReading sequence x) (λ q left. refl) (readSequence D f d (a .names) (lexemesAt s (a .at))) hx l))
 
-      pub sequence-joined : (shape : Shape) → b .refusal ≡ 0 → shape ≡ thenShape (a .shape) (b .shape)
-          → Answers (readSequence D) 2 s at n d (record { refusal = 0; at = b .at; names = b .names; shape = shape })
-      sequence-joined shape y k =
+      sequence-taken : b .refusal ≡ 0 → Answers (readSequence D) 2 s at n d (takenAt (b .at) (b .names) (thenShape (a .shape) (b .shape)))
+      sequence-taken y =
           answers (readSequence D) 2 s at n d _ (later-goes s at (a .at) b _ (hb .goes) y (h .goes .past z) (h .goes .fewer z) refl refl) (λ f q.
-          beside-says f _ q (λ x g hx. joined s sequence thenShape then-shape a b shape x (readSequence D f d (a .names) (lexemesAt s (a .at))) g hx y k))
+          beside-says f _ q (λ x g hx. joined s sequence thenShape then-shape a b x (readSequence D f d (a .names) (lexemesAt s (a .at))) g hx y))
+
+      pub sequence-joined : (r : Part) → Joined thenShape a b r → Answers (readSequence D) 2 s at n d r
+      sequence-joined r j = elim (split-bool (eqb (b .refusal) 0)) [
+        | inl y ↦ let o = eqb-true (b .refusal) 0 y in rw (j .taken o) (sequence-taken o)
+        | inr y ↦ let o = eqb-false (b .refusal) 0 y in rw (j .stopped o) (sequence-stopped o)
+      ]
 
 -- A repetition ---------------------------------------------------------------------------------------------------------
 
@@ -288,11 +307,11 @@ module _ (text starts sizes : List ℕ) (events : ℕ) (s : List ℕ) (at n d : 
       let w = step-fewer s at t look (λ i. omega arith) in
       record { begins = λ _. rw p (look .begins); past = λ _. omega arith; fewer = λ _. rw p w; few = λ _. q }
 
-  pub word-epsilon : (shape : Shape) → c ≡ true → shape ≡ shapeOf epsilon
-      → Answers (readAtom (namesAt text events starts sizes)) 0 s at n d (record { refusal = 0; at = t .next; names = n; shape = shape })
+  pub word-epsilon : (shape : Shape) (r : Part) → c ≡ true → shape ≡ shapeOf epsilon → r ≡ takenAt (t .next) n shape
+      → Answers (readAtom (namesAt text events starts sizes)) 0 s at n d r
   unfolding readName
-  word-epsilon shape i k = answers _ 0 s at n d _ (word-goes _ refl (ready .few)) (λ f q.
-      word-says f _ (rw (readName, sym e ∙ i) (refl, (refl, (refl, k)))))
+  word-epsilon shape r i k j = rw j (answers _ 0 s at n d _ (word-goes _ refl (ready .few)) (λ f q.
+      word-says f _ (rw (readName, sym e ∙ i) (refl, (refl, (refl, k))))))
 
   module _ (i : c ≡ false) (event : ℕ) (k : event ≡ placeOf (take (t .end - at) (drop at s)) (namesAt text events starts sizes)) where
     names-length : length (namesAt text events starts sizes) ≡ events
@@ -311,11 +330,11 @@ module _ (text starts sizes : List ℕ) (events : ℕ) (s : List ℕ) (at n d : 
     word-many r l m g = answers _ 0 s at n d r (refused-goes s at at tooManyNames r g) (λ f q.
         word-says f r (rw (readName, sym e ∙ i, ← k, names-length, lt-ltb event events l, le-ltb n mostNames m) (refused-says s at tooManyNames r (ready .begins) g)))
 
-    pub word-taken : (shape : Shape) → event < events → n < mostNames → shape ≡ shapeOf (name (n + 1) event)
-        → Answers (readAtom (namesAt text events starts sizes)) 0 s at n d (record { refusal = 0; at = t .next; names = n + 1; shape = shape })
+    pub word-taken : (shape : Shape) (r : Part) → event < events → n < mostNames → shape ≡ shapeOf (name (n + 1) event)
+        → r ≡ takenAt (t .next) (n + 1) shape → Answers (readAtom (namesAt text events starts sizes)) 0 s at n d r
     unfolding readName
-    word-taken shape l m g = answers _ 0 s at n d _ (word-goes _ refl (omega arith)) (λ f q.
-        word-says f _ (rw (readName, sym e ∙ i, ← k, names-length, lt-ltb event events l, lt-ltb n mostNames m) (refl, (refl, (sym (add-one n), g ∙ ap₂ (λ p v. shapeOf (name p v)) (add-one n) k)))))
+    word-taken shape r l m g j = rw j (answers _ 0 s at n d _ (word-goes _ refl (omega arith)) (λ f q.
+        word-says f _ (rw (readName, sym e ∙ i, ← k, names-length, lt-ltb event events l, lt-ltb n mostNames m) (refl, (refl, (sym (add-one n), g ∙ ap₂ (λ p v. shapeOf (name p v)) (add-one n) k))))))
 
 -- what begins no atom, a parenthesis too deep, one whose inside is refused, one that is not closed, one that is
 no-atom : (D : List (List ℕ)) (inside : ℕ → List Lexeme → Reading) (d n : ℕ) (ls : List Lexeme) → nextIs beginsAtom ls ≡ false
@@ -381,20 +400,20 @@ module _ (D : List (List ℕ)) (s : List ℕ) (at n d : ℕ) (t : Step) (look : 
             let g = good-is s a (readAlternative D f (suc d) n (lexemesAt s (t .next))) y z in
             rw (g .is, closed, mark-missing s (a .at) u look′ closing m) (refused-says s (a .at) notOfGrammar r (h .goes .begins z) k)))
 
-        pub atom-closed : u .kind ≡ closing → Answers (readAtom D) 0 s at n d (record { refusal = 0; at = u .next; names = a .names; shape = a .shape })
-        atom-closed m =
+        pub atom-closed : (r : Part) → u .kind ≡ closing → r ≡ takenAt (u .next) (a .names) (a .shape) → Answers (readAtom D) 0 s at n d r
+        atom-closed r m k =
             let o = step-past s at t look (λ i. omega arith) in
             let v = step-fewer s at t look (λ i. omega arith) in
             let p = step-past s (a .at) u look′ (λ i. omega arith) in
             let w = step-fewer s (a .at) u look′ (λ i. omega arith) in
             let j = h .goes .past z in
             let x = h .goes .fewer z in
-            let goes : Goes s at (record { refusal = 0; at = u .next; names = a .names; shape = a .shape }) =
+            let goes : Goes s at (takenAt (u .next) (a .names) (a .shape)) =
             record { begins = λ _. look′ .begins; past = λ _. omega arith; fewer = λ _. omega arith; few = λ _. h .goes .few z } in
-            answers (readAtom D) 0 s at n d _ goes (λ f q.
+            rw k (answers (readAtom D) 0 s at n d _ goes (λ f q.
             inside-says f _ q (λ y.
             let g = good-is s a (readAlternative D f (suc d) n (lexemesAt s (t .next))) y z in
-            rw (ap closed (g .is) ∙ closed-here (g .pattern) (a .names) (a .at) _ _ (mark-here s (a .at) u look′ closing (lit≤ tt) (lit≤ tt) m)) (refl, (refl, (refl, g .shape)))))
+            rw (ap closed (g .is) ∙ closed-here (g .pattern) (a .names) (a .at) _ _ (mark-here s (a .at) u look′ closing (lit≤ tt) (lit≤ tt) m)) (refl, (refl, (refl, g .shape))))))
 
 -- What the readers are given for the calls that follow ----------------------------------------------------------------
 

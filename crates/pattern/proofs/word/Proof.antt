@@ -24,6 +24,9 @@ same-requires c κs = search needs
 empty-requires : tie.Need-empty-requires
 empty-requires c κs = search needs
 
+taken-at-requires : tie.Need-taken-at-requires
+taken-at-requires c κs = search needs
+
 returns : tie.Need-returns
 returns c = search (needs, word-epsilon)
 
@@ -48,6 +51,9 @@ add-number c = search needs
 leaf-requires : tie.Need-leaf-requires
 leaf-requires c κs = search needs
 
+taken-at-requires-2 : tie.Need-taken-at-requires-2
+taken-at-requires-2 c κs = search needs
+
 returns-4 : tie.Need-returns-4
 returns-4 c = search (needs, word-taken)
 
@@ -61,6 +67,7 @@ word-spec =
     slice-aggregate-same
     same-requires
     empty-requires
+    taken-at-requires
     returns
     find-requires
     refused-at-requires
@@ -69,4 +76,5 @@ word-spec =
     returns-3
     add-number
     leaf-requires
+    taken-at-requires-2
     returns-4)
