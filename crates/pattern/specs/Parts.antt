@@ -3,20 +3,17 @@
 -- Assumes nothing.
 use Prim.Native.Nat.{ℕ, _+_, _*_, _≤_, _<_}
 use mathlib.Core.Path.{_≡_}
-use mathlib.Core.Bool.{Bool, cond, _||_}
-use mathlib.Core.List.{List, [], _∷_}
+use mathlib.Core.List.{List}
 use lib.ListN.{length}
-use lib.Dec.{eqb}
 use Rattle.document.specs.Limits.{mostNames, mostOpen, mostEvents}
-use Rattle.document.specs.Refusals.{Refusal, number, Answer, taken, refused}
-use Rattle.document.specs.Classes.{opening}
+use Rattle.document.specs.Refusals.{number, taken, refused}
 use Rattle.document.specs.Patterns.{Pattern, epsilon}
 use Rattle.document.specs.Tokens.{Lexeme, offsetOf}
 use Rattle.document.specs.Reading.{Reading, read, stopped, marked}
 use Rattle.declared.specs.Readings.{Inside}
 use Rattle.sets.specs.declared.Shape.{Shape}
 use Rattle.sets.specs.Shapes.{shapeOf}
-use Rattle.tokens.specs.Lexing.{wordKind, lexemesAt}
+use Rattle.tokens.specs.Lexing.{lexemesAt}
 use Rattle.tokens.specs.Steps.{Begins}
 use Rattle.pattern.specs.declared.Part.{Part}
 

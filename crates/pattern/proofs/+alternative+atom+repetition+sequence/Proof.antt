@@ -1,7 +1,9 @@
 -- The four readers of `pattern` meet their contracts. What falls is four times what is left of the text and the reader's kind:
 -- an alternative 3, a sequence 2, a repetition 1, an atom 0.
 -- Assumes nothing.
-use Rattle.pattern.specs.PartsLaws.{alternative-refused, alternative-over, alternative-joined, atom-missing, atom-deep, atom-stopped, atom-open, atom-closed, repetition-refused, repetition-marked, sequence-refused, sequence-over, sequence-joined, begins-after, ready-after, ready-past, ready-inside, falls-beside, falls-bar, falls-inside}
+use Rattle.pattern.specs.ReadersLaws.{alternative-refused, alternative-over, alternative-joined, repetition-refused, repetition-marked, sequence-refused, sequence-over, sequence-joined}
+use Rattle.pattern.specs.AtomsLaws.{atom-missing, atom-deep, atom-stopped, atom-open, atom-closed}
+use Rattle.pattern.specs.PartsLaws.{begins-after, ready-after, ready-past, ready-inside, falls-beside, falls-bar, falls-inside}
 use Prim.Native.Nat.{ℕ, _+_, _-_, _*_, _<_}
 use native.Mathlib.Omega.{arith}
 use borrow.Author.Needs.{needs}

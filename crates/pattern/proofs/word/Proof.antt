@@ -1,6 +1,6 @@
 -- `pattern::word` meets its contract: `epsilon`, an undeclared name, one too many, a name.
 -- Assumes nothing.
-use Rattle.pattern.specs.PartsLaws.{word-epsilon, word-undeclared, word-many, word-taken}
+use Rattle.pattern.specs.AtomsLaws.{word-epsilon, word-undeclared, word-many, word-taken}
 use Prim.Native.Nat.{_-_}
 use borrow.Author.Needs.{needs}
 use Rattle.pattern.proofs.word.Statement.{statement}
