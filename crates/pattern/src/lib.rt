@@ -71,7 +71,7 @@ fn refused_at(refusal: u8, at: usize) -> Part
     }
 }
 
-// An event name, or `epsilon`: 7 before 8.
+// An event name, which gets the next number, or `epsilon`, which gets none; 7 before 8.
 fn word<'a, 'b, 'c>(
     text: &'a [u8],
     at: usize,
@@ -88,6 +88,7 @@ fn word<'a, 'b, 'c>(
 {
     let end = t.end;
     let name = &text[at..end];
+    let number = names + 1;
     if rows::same(name, b"epsilon") {
         let shape = sets::empty();
         return taken_at(t.next, names, shape);
@@ -99,7 +100,6 @@ fn word<'a, 'b, 'c>(
     if MOST_NAMES <= names {
         return refused_at(refusals::TOO_MANY_NAMES, at);
     }
-    let number = names + 1;
     let shape = sets::leaf(number, event);
     taken_at(t.next, number, shape)
 }

@@ -15,6 +15,9 @@ part-name-start c = search needs
 part-name-end : tie.Need-part-name-end
 part-name-end c = search needs
 
+add-number : tie.Need-add-number
+add-number c = search needs
+
 slice-aggregate-same : tie.Need-slice-aggregate-same
 slice-aggregate-same c = search needs
 
@@ -45,9 +48,6 @@ refused-at-requires-2 c κs = search needs
 returns-3 : tie.Need-returns-3
 returns-3 c = search (needs, word-many)
 
-add-number : tie.Need-add-number
-add-number c = search needs
-
 leaf-requires : tie.Need-leaf-requires
 leaf-requires c κs = search needs
 
@@ -64,6 +64,7 @@ word-spec =
     sub-name
     part-name-start
     part-name-end
+    add-number
     slice-aggregate-same
     same-requires
     empty-requires
@@ -74,7 +75,6 @@ word-spec =
     returns-2
     refused-at-requires-2
     returns-3
-    add-number
     leaf-requires
     taken-at-requires-2
     returns-4)
