@@ -3,19 +3,17 @@
 -- Assumes nothing.
 use Prim.Native.Nat.{ℕ, _+_, _*_, _≤_, _<_}
 use mathlib.Core.Path.{_≡_}
-use mathlib.Core.Bool.{Bool, cond, _||_}
-use mathlib.Core.List.{List, [], _∷_}
+use mathlib.Core.List.{List}
 use lib.ListN.{length}
-use lib.Dec.{eqb}
 use Rattle.document.specs.Limits.{mostNames, mostOpen, mostEvents}
-use Rattle.document.specs.Refusals.{Refusal, number, Answer, taken, refused}
-use Rattle.document.specs.Classes.{opening}
+use Rattle.document.specs.Refusals.{number, taken, refused}
 use Rattle.document.specs.Patterns.{Pattern, epsilon}
 use Rattle.document.specs.Tokens.{Lexeme, offsetOf}
 use Rattle.document.specs.Reading.{Reading, read, stopped, marked}
 use Rattle.declared.specs.Readings.{Inside}
+use Rattle.sets.specs.declared.Shape.{Shape}
 use Rattle.sets.specs.Shapes.{shapeOf}
-use Rattle.tokens.specs.Lexing.{wordKind, lexemesAt}
+use Rattle.tokens.specs.Lexing.{lexemesAt}
 use Rattle.tokens.specs.Steps.{Begins}
 use Rattle.pattern.specs.declared.Part.{Part}
 
@@ -55,6 +53,14 @@ pub record Marked (s : List ℕ) (a r : Part) : Type 0 where
   pub names : r .names ≡ a .names
   pub says : (x : Pattern) → a .shape ≡ shapeOf x → Says s (marked x (lexemesAt s (a .at)) (a .names)) r
 
--- a refusal at a place
+-- a part that was read up to a place, and a refusal at a place
+abbrev pub takenAt : ℕ → ℕ → Shape → Part
+takenAt at n shape = record { refusal = 0; at = at; names = n; shape = shape }
+
 unfoldable pub refusedAt : ℕ → ℕ → Part
 refusedAt q at = record { refusal = q; at = at; names = 0; shape = shapeOf epsilon }
+
+-- r is a part and the one after it in one, their shapes joined; where the second is refused, r is that refusal
+pub record Joined (join : Shape → Shape → Shape) (a b r : Part) : Type 0 where
+  pub stopped : (b .refusal ≡ 0 → ⊥) → r ≡ b
+  pub taken : b .refusal ≡ 0 → r ≡ takenAt (b .at) (b .names) (join (a .shape) (b .shape))

@@ -1,24 +1,23 @@
 -- Laws of the text around a pattern: one for each return of its readers.
 -- Assumes nothing.
-use Prim.Native.Nat.{ℕ, zero, suc, _+_, _-_, _*_, _≤_, _<_}
+use Prim.Native.Nat.{ℕ, _+_, _-_, _*_, _≤_, _<_}
 use mathlib.Core.Path.{_≡_, refl, sym, ap, ap₂, _∙_}
 use mathlib.Core.Logic.{inl, inr, ⊎-elim}
-use mathlib.Core.Bool.{Bool, true, false, not, cond}
+use mathlib.Core.Bool.{Bool, true, false, not}
 use mathlib.Core.List.{List, [], _∷_}
 use lib.ListN.{length, take, drop}
-use lib.Dec.{eqb, ltb, lit≤}
+use lib.Dec.{eqb, lit≤}
 use native.Mathlib.Omega.{arith}
-use borrow.Author.Tests.{eq-eqb, ne-eqb, lt-ltb, le-ltb, not-true, not-false, eqb-true}
+use borrow.Author.Tests.{eq-eqb, ne-eqb, lt-ltb, not-true, not-false}
 use Rattle.document.specs.Lists.{equal}
-use Rattle.document.specs.Limits.{mostNames, mostOpen, mostEvents}
-use Rattle.document.specs.Refusals.{Refusal, Answer, taken, refused, notOfGrammar, number}
+use Rattle.document.specs.Limits.{mostEvents}
+use Rattle.document.specs.Refusals.{taken, refused, notOfGrammar, number}
 use Rattle.document.specs.Classes.{colon, ereWord}
-use Rattle.document.specs.Patterns.{Pattern, match, fail}
-use Rattle.document.specs.Tokens.{Token, word, mark, ask, noToken, Lexeme, lexemes, lexemesFrom, offsetOf, isMarkOf, isWordOf}
+use Rattle.document.specs.Patterns.{Pattern}
+use Rattle.document.specs.Tokens.{Token, word, mark, ask, noToken, Lexeme, lexemes, offsetOf, isMarkOf, isWordOf}
 use Rattle.document.specs.Reading.{Reading, read, stopped, nextIs, past, askOf, secondAsk, readAsks, readAlternative, readWhole, parse}
 use Rattle.rows.specs.RowsLaws.{split-bool}
 use Rattle.declared.specs.Readings.{Inside}
-use Rattle.sets.specs.Shapes.{shapeOf}
 use Rattle.tokens.specs.declared.Step.{Step}
 use Rattle.tokens.specs.Lexing.{wordKind, endKind, askMatchKind, askFailKind, kindOf, lexemesAt}
 use Rattle.tokens.specs.Steps.{skipTo, Begins, Sort, Looks}

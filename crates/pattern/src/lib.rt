@@ -1,6 +1,7 @@
 // A pattern text (document 01, "The pattern text"): four readers that call each other, and the text around what they read.
 // A reader answers the shape of what it read and the place of the next token, or a refusal and its place. Places are always
 // those of a token, or the text's end: `tokens::look` passes the blanks.
+// The readers are lent the text of the declarations as `events`; `starts`, `sizes` and `count` say where its event names stand.
 // Interior: the crate `translate` reads a pattern with `parse`.
 ghost use mathlib.Core.Path.{_≡_};
 ghost use Prim.Native.Nat.{ℕ, _≤_, _<_};
@@ -10,9 +11,10 @@ ghost use Rattle.document.specs.Classes.{ereWord};
 ghost use Rattle.document.specs.Tokens.{isWordOf};
 ghost use Rattle.document.specs.Reading.{parse, nextIs, readAlternative, readSequence, readRepetition, readAtom};
 ghost use Rattle.declared.specs.Readings.{namesAt, Inside};
+ghost use Rattle.sets.specs.Shapes.{eitherShape, thenShape};
 ghost use Rattle.tokens.specs.Lexing.{wordKind, lexemesAt};
 ghost use Rattle.tokens.specs.Steps.{Begins, Looks};
-ghost use Rattle.pattern.specs.Parts.{Ready, Answers, Marked, refusedAt};
+ghost use Rattle.pattern.specs.Parts.{Ready, Answers, Marked, Joined, takenAt, refusedAt};
 ghost use Rattle.pattern.specs.Texts.{askedBy, refusedText, takenText, parsedOf, Asks};
 
 // Limits of document 01: event names in a pattern, open parentheses.
@@ -46,6 +48,17 @@ pub struct Parsed {
     pub shape: sets::Shape,
 }
 
+fn taken_at(at: usize, names: usize, shape: sets::Shape) -> Part
+    ensures { λ r. ⌜ r ≡ takenAt at names shape ⌝ }
+{
+    Part {
+        refusal: refusals::TAKEN,
+        at,
+        names,
+        shape,
+    }
+}
+
 fn refused_at(refusal: u8, at: usize) -> Part
     ensures { λ r. ⌜ r ≡ refusedAt refusal at ⌝ }
 {
@@ -58,37 +71,37 @@ fn refused_at(refusal: u8, at: usize) -> Part
     }
 }
 
-// An event name, or `epsilon`: 7 before 8.
-fn word<'a, 'b, 'c>(text: &'a [u8], at: usize, t: tokens::Step, names: usize, depth: usize, declarations: &'b [u8], starts: &'c [usize; 16], sizes: &'c [usize; 16], events: usize) -> Part
-    requires { ⌜ Ready (now text) at names depth (now declarations) (now starts) (now sizes) events × (Looks (now text) at t × (t .kind ≡ wordKind)) ⌝ }
-    ensures { λ r. ⌜ Answers (readAtom (namesAt (now (declarations .entry)) events (now (starts .entry)) (now (sizes .entry)))) 0 (now (text .entry)) at names depth r ⌝ }
+// An event name, which gets the next number, or `epsilon`, which gets none; 7 before 8.
+fn word<'a, 'b, 'c>(
+    text: &'a [u8],
+    at: usize,
+    t: tokens::Step,
+    names: usize,
+    depth: usize,
+    events: &'b [u8],
+    starts: &'c [usize; 16],
+    sizes: &'c [usize; 16],
+    count: usize,
+) -> Part
+    requires { ⌜ Ready (now text) at names depth (now events) (now starts) (now sizes) count × (Looks (now text) at t × (t .kind ≡ wordKind)) ⌝ }
+    ensures { λ r. ⌜ Answers (readAtom (namesAt (now (events .entry)) count (now (starts .entry)) (now (sizes .entry)))) 0 (now (text .entry)) at names depth r ⌝ }
 {
     let end = t.end;
     let name = &text[at..end];
+    let number = names + 1;
     if rows::same(name, b"epsilon") {
         let shape = sets::empty();
-        return Part {
-            refusal: refusals::TAKEN,
-            at: t.next,
-            names,
-            shape,
-        };
+        return taken_at(t.next, names, shape);
     }
-    let event = declared::find(declarations, starts, sizes, events, name);
-    if events <= event {
+    let event = declared::find(events, starts, sizes, count, name);
+    if count <= event {
         return refused_at(refusals::UNDECLARED_EVENT, at);
     }
     if MOST_NAMES <= names {
         return refused_at(refusals::TOO_MANY_NAMES, at);
     }
-    let number = names + 1;
     let shape = sets::leaf(number, event);
-    Part {
-        refusal: refusals::TAKEN,
-        at: t.next,
-        names: number,
-        shape,
-    }
+    taken_at(t.next, number, shape)
 }
 
 // What the `*` and `+` after an atom make of it.
@@ -116,13 +129,22 @@ fn marks(text: &[u8], a: Part) -> Part
 
 // An event name, `epsilon`, or an alternative in parentheses. The nesting is judged before the alternative is read, so that
 // the depth of the calls stays within what 16 parentheses ask.
-pub fn atom<'a, 'b, 'c>(text: &'a [u8], at: usize, names: usize, depth: usize, declarations: &'b [u8], starts: &'c [usize; 16], sizes: &'c [usize; 16], events: usize) -> Part
-    requires { ⌜ Ready (now text) at names depth (now declarations) (now starts) (now sizes) events ⌝ }
-    ensures { λ r. ⌜ Answers (readAtom (namesAt (now (declarations .entry)) events (now (starts .entry)) (now (sizes .entry)))) 0 (now (text .entry)) at names depth r ⌝ }
+pub fn atom<'a, 'b, 'c>(
+    text: &'a [u8],
+    at: usize,
+    names: usize,
+    depth: usize,
+    events: &'b [u8],
+    starts: &'c [usize; 16],
+    sizes: &'c [usize; 16],
+    count: usize,
+) -> Part
+    requires { ⌜ Ready (now text) at names depth (now events) (now starts) (now sizes) count ⌝ }
+    ensures { λ r. ⌜ Answers (readAtom (namesAt (now (events .entry)) count (now (starts .entry)) (now (sizes .entry)))) 0 (now (text .entry)) at names depth r ⌝ }
 {
     let t = tokens::look(text, at);
     if t.kind == tokens::WORD {
-        return word(text, at, t, names, depth, declarations, starts, sizes, events);
+        return word(text, at, t, names, depth, events, starts, sizes, count);
     }
     if t.kind != classes::OPENING {
         return refused_at(refusals::NOT_OF_GRAMMAR, at);
@@ -130,7 +152,7 @@ pub fn atom<'a, 'b, 'c>(text: &'a [u8], at: usize, names: usize, depth: usize, d
     if MOST_OPEN <= depth {
         return refused_at(refusals::TOO_DEEP, at);
     }
-    let a = alternative(text, t.next, names, depth + 1, declarations, starts, sizes, events);
+    let a = alternative(text, t.next, names, depth + 1, events, starts, sizes, count);
     if a.refusal != refusals::TAKEN {
         return a;
     }
@@ -139,32 +161,71 @@ pub fn atom<'a, 'b, 'c>(text: &'a [u8], at: usize, names: usize, depth: usize, d
         return refused_at(refusals::NOT_OF_GRAMMAR, a.at);
     }
     let shape = a.shape;
-    Part {
-        refusal: refusals::TAKEN,
-        at: u.next,
-        names: a.names,
-        shape,
-    }
+    taken_at(u.next, a.names, shape)
 }
 
 // An atom followed by any number of `*` or `+`.
-pub fn repetition<'a, 'b, 'c>(text: &'a [u8], at: usize, names: usize, depth: usize, declarations: &'b [u8], starts: &'c [usize; 16], sizes: &'c [usize; 16], events: usize) -> Part
-    requires { ⌜ Ready (now text) at names depth (now declarations) (now starts) (now sizes) events ⌝ }
-    ensures { λ r. ⌜ Answers (readRepetition (namesAt (now (declarations .entry)) events (now (starts .entry)) (now (sizes .entry)))) 1 (now (text .entry)) at names depth r ⌝ }
+pub fn repetition<'a, 'b, 'c>(
+    text: &'a [u8],
+    at: usize,
+    names: usize,
+    depth: usize,
+    events: &'b [u8],
+    starts: &'c [usize; 16],
+    sizes: &'c [usize; 16],
+    count: usize,
+) -> Part
+    requires { ⌜ Ready (now text) at names depth (now events) (now starts) (now sizes) count ⌝ }
+    ensures { λ r. ⌜ Answers (readRepetition (namesAt (now (events .entry)) count (now (starts .entry)) (now (sizes .entry)))) 1 (now (text .entry)) at names depth r ⌝ }
 {
-    let a = atom(text, at, names, depth, declarations, starts, sizes, events);
+    let a = atom(text, at, names, depth, events, starts, sizes, count);
     if a.refusal != refusals::TAKEN {
         return a;
     }
     marks(text, a)
 }
 
-// One or more repetitions side by side.
-pub fn sequence<'a, 'b, 'c>(text: &'a [u8], at: usize, names: usize, depth: usize, declarations: &'b [u8], starts: &'c [usize; 16], sizes: &'c [usize; 16], events: usize) -> Part
-    requires { ⌜ Ready (now text) at names depth (now declarations) (now starts) (now sizes) events ⌝ }
-    ensures { λ r. ⌜ Answers (readSequence (namesAt (now (declarations .entry)) events (now (starts .entry)) (now (sizes .entry)))) 2 (now (text .entry)) at names depth r ⌝ }
+// A part and the one after it, side by side; a refusal of the second stands.
+fn beside(a: Part, b: Part) -> Part
+    ensures { λ r. ⌜ Joined thenShape a b r ⌝ }
 {
-    let a = repetition(text, at, names, depth, declarations, starts, sizes, events);
+    if b.refusal != refusals::TAKEN {
+        return b;
+    }
+    let x = a.shape;
+    let y = b.shape;
+    let shape = sets::sequence(x, y);
+    taken_at(b.at, b.names, shape)
+}
+
+// The same, with a `|` between them.
+fn either(a: Part, b: Part) -> Part
+    ensures { λ r. ⌜ Joined eitherShape a b r ⌝ }
+{
+    if b.refusal != refusals::TAKEN {
+        return b;
+    }
+    let x = a.shape;
+    let y = b.shape;
+    let shape = sets::alternative(x, y);
+    taken_at(b.at, b.names, shape)
+}
+
+// One or more repetitions side by side.
+pub fn sequence<'a, 'b, 'c>(
+    text: &'a [u8],
+    at: usize,
+    names: usize,
+    depth: usize,
+    events: &'b [u8],
+    starts: &'c [usize; 16],
+    sizes: &'c [usize; 16],
+    count: usize,
+) -> Part
+    requires { ⌜ Ready (now text) at names depth (now events) (now starts) (now sizes) count ⌝ }
+    ensures { λ r. ⌜ Answers (readSequence (namesAt (now (events .entry)) count (now (starts .entry)) (now (sizes .entry)))) 2 (now (text .entry)) at names depth r ⌝ }
+{
+    let a = repetition(text, at, names, depth, events, starts, sizes, count);
     if a.refusal != refusals::TAKEN {
         return a;
     }
@@ -172,27 +233,25 @@ pub fn sequence<'a, 'b, 'c>(text: &'a [u8], at: usize, names: usize, depth: usiz
     if !tokens::begins_atom(t.kind) {
         return a;
     }
-    let b = sequence(text, a.at, a.names, depth, declarations, starts, sizes, events);
-    if b.refusal != refusals::TAKEN {
-        return b;
-    }
-    let x = a.shape;
-    let y = b.shape;
-    let shape = sets::sequence(x, y);
-    Part {
-        refusal: refusals::TAKEN,
-        at: b.at,
-        names: b.names,
-        shape,
-    }
+    let b = sequence(text, a.at, a.names, depth, events, starts, sizes, count);
+    beside(a, b)
 }
 
 // One or more sequences separated by `|`.
-pub fn alternative<'a, 'b, 'c>(text: &'a [u8], at: usize, names: usize, depth: usize, declarations: &'b [u8], starts: &'c [usize; 16], sizes: &'c [usize; 16], events: usize) -> Part
-    requires { ⌜ Ready (now text) at names depth (now declarations) (now starts) (now sizes) events ⌝ }
-    ensures { λ r. ⌜ Answers (readAlternative (namesAt (now (declarations .entry)) events (now (starts .entry)) (now (sizes .entry)))) 3 (now (text .entry)) at names depth r ⌝ }
+pub fn alternative<'a, 'b, 'c>(
+    text: &'a [u8],
+    at: usize,
+    names: usize,
+    depth: usize,
+    events: &'b [u8],
+    starts: &'c [usize; 16],
+    sizes: &'c [usize; 16],
+    count: usize,
+) -> Part
+    requires { ⌜ Ready (now text) at names depth (now events) (now starts) (now sizes) count ⌝ }
+    ensures { λ r. ⌜ Answers (readAlternative (namesAt (now (events .entry)) count (now (starts .entry)) (now (sizes .entry)))) 3 (now (text .entry)) at names depth r ⌝ }
 {
-    let a = sequence(text, at, names, depth, declarations, starts, sizes, events);
+    let a = sequence(text, at, names, depth, events, starts, sizes, count);
     if a.refusal != refusals::TAKEN {
         return a;
     }
@@ -200,19 +259,8 @@ pub fn alternative<'a, 'b, 'c>(text: &'a [u8], at: usize, names: usize, depth: u
     if t.kind != classes::BAR {
         return a;
     }
-    let b = alternative(text, t.next, a.names, depth, declarations, starts, sizes, events);
-    if b.refusal != refusals::TAKEN {
-        return b;
-    }
-    let x = a.shape;
-    let y = b.shape;
-    let shape = sets::alternative(x, y);
-    Part {
-        refusal: refusals::TAKEN,
-        at: b.at,
-        names: b.names,
-        shape,
-    }
+    let b = alternative(text, t.next, a.names, depth, events, starts, sizes, count);
+    either(a, b)
 }
 
 fn refused_text(refusal: u8, at: usize) -> Parsed
@@ -289,9 +337,15 @@ fn asks(text: &[u8], a: Part) -> Parsed
 }
 
 // A whole pattern text: `ere`, `:`, an alternative, and the verdicts asked for.
-pub fn parse<'a, 'b, 'c>(text: &'a [u8], declarations: &'b [u8], starts: &'c [usize; 16], sizes: &'c [usize; 16], events: usize) -> Parsed
-    requires { ⌜ Inside (now declarations) (now starts) (now sizes) × (events ≤ mostEvents) ⌝ }
-    ensures { λ r. ⌜ r ≡ parsedOf (parse (namesAt (now (declarations .entry)) events (now (starts .entry)) (now (sizes .entry))) (now (text .entry))) ⌝ }
+pub fn parse<'a, 'b, 'c>(
+    text: &'a [u8],
+    events: &'b [u8],
+    starts: &'c [usize; 16],
+    sizes: &'c [usize; 16],
+    count: usize,
+) -> Parsed
+    requires { ⌜ Inside (now events) (now starts) (now sizes) × (count ≤ mostEvents) ⌝ }
+    ensures { λ r. ⌜ r ≡ parsedOf (parse (namesAt (now (events .entry)) count (now (starts .entry)) (now (sizes .entry))) (now (text .entry))) ⌝ }
 {
     let start = tokens::skip(text, 0);
     let ere = tokens::look(text, start);
@@ -302,7 +356,7 @@ pub fn parse<'a, 'b, 'c>(text: &'a [u8], declarations: &'b [u8], starts: &'c [us
     if colon.kind != classes::COLON {
         return refused_text(refusals::NOT_OF_GRAMMAR, ere.next);
     }
-    let a = alternative(text, colon.next, 0, 0, declarations, starts, sizes, events);
+    let a = alternative(text, colon.next, 0, 0, events, starts, sizes, count);
     if a.refusal != refusals::TAKEN {
         return refused_text(a.refusal, a.at);
     }

@@ -16,14 +16,8 @@ use borrow.Author.Tests.{eqb-true, eqb-false}
 use Rattle.document.specs.Lists.{tabulate}
 use Rattle.document.specs.Patterns.{Pattern, name, alternative, sequence, star, plus}
 use Rattle.document.specs.Positions.{holds, nullable, firsts, lasts, follows, named}
-use Rattle.words.specs.Range.{tabulate-at}
+use Rattle.words.specs.Range.{tabulate-at, tabulate-same}
 use Rattle.sets.specs.Shapes.{shapeOf, mergeOf, linkOf, eitherShape, thenShape, starShape, plusShape}
-
--- two rules that agree below n make the same list
-pub tabulate-same : (n : ℕ) (f g : ℕ → ℕ) → ((k : ℕ) → k < n → f k ≡ g k) → tabulate n f ≡ tabulate n g
-unfolding tabulate
-tabulate-same zero f g h = refl
-tabulate-same (suc n) f g h = ap₂ _∷_ (h 0 (omega arith)) (tabulate-same n (λ k. f (suc k)) (λ k. g (suc k)) (λ k l. h (suc k) (omega arith)))
 
 -- a list of n numbers that follow a rule is the rule's list
 pub tabulate-is : (n : ℕ) (g : ℕ → ℕ) (r : List ℕ) → length r ≡ n → ((k : ℕ) → k < n → getD r k 0 ≡ g k) → r ≡ tabulate n g

@@ -1,26 +1,25 @@
 -- What is seen at a place: from the token there to the tokens that are left, and from its kind to the tests of the definitions.
 -- Assumes nothing.
-use Prim.Native.Nat.{ℕ, zero, suc, _+_, _-_, _≤_, _<_}
-use mathlib.Core.Path.{_≡_, refl, sym, ap, _∙_}
+use Prim.Native.Nat.{ℕ, _+_, _-_, _≤_, _<_}
+use mathlib.Core.Path.{_≡_, refl, ap, _∙_}
 use mathlib.Core.Logic.{_⊎_, inl, inr, ⊎-elim}
 use mathlib.Core.Bool.{Bool, true, false, _&&_}
 use mathlib.Core.List.{List, [], _∷_}
 use lib.ListN.{length, getD, take, drop, length-drop}
-use lib.Dec.{eqb, leb, ltb, lit≤}
+use lib.Dec.{eqb, leb, ltb}
 use native.Mathlib.Omega.{arith}
-use borrow.Author.Tests.{lt-ltb, le-ltb, eq-eqb, ne-eqb, eqb-true, leb-true, ltb-true, ltb-false}
+use borrow.Author.Tests.{ne-eqb, leb-true, ltb-true, ltb-false}
 use Rattle.document.specs.Lists.{takeWhile, startsWith}
 use Rattle.document.specs.Classes.{classOf, isNameByte, letter, atSign, opening, plus, matchWord, failWord}
-use Rattle.document.specs.Patterns.{match, fail}
 use Rattle.document.specs.Declarations.{nameRun}
 use Rattle.document.specs.Tokens as doc
 use Rattle.document.specs.Tokens.{word, mark, ask, noToken, askToken, tokenAt, offsetOf, isMarkOf, beginsAtom}
 use Rattle.document.specs.Reading.{nextIs, past}
-use Rattle.rows.specs.RowsLaws.{drop-here, drop-end, split-bool}
+use Rattle.rows.specs.RowsLaws.{drop-here, split-bool}
 use Rattle.tokens.specs.declared.Token.{Token}
 use Rattle.tokens.specs.declared.Step.{Step}
 use Rattle.tokens.specs.Lexing.{beginsKind, kindOf, wordKind, endKind, shown, tokenHere, lexemesAt}
-use Rattle.tokens.specs.Steps.{skipTo, Begins, Sort, Stands, Ended, Looks}
+use Rattle.tokens.specs.Steps.{skipTo, Begins, Sort, Stands, Looks}
 use Rattle.tokens.specs.TokensLaws.{token-size, lexemes-token, lexemes-skip, lexemes-end, skip-begins}
 
 -- a run is that many of the first bytes
@@ -118,22 +117,6 @@ module _ (s : List ℕ) (at : ℕ) (r : Step) (look : Looks s at r) where
       go (ask v) y (inl z) t = let n = rw z at y in absurd (omega arith)
       go (ask v) y (inr z) t = let n = rw z at y in absurd (omega arith)
       go noToken y z t = absurd (omega arith)
-
-  pub ask-here : (v : ℕ) → r .kind ≡ kindOf (ask v) → (v ≡ match) ⊎ (v ≡ fail) → lexemesAt s at ≡ record { token = ask v; at = at } ∷ lexemesAt s (r .next)
-  ask-here v e h = ⊎-elim (λ z. absurd (none (e′ h) (z .kind))) (λ z. go (e′ h) (z .token) (z .kind) (z .sort) (z .tokens)) (look .what)
-    where
-      e′ : (v ≡ match) ⊎ (v ≡ fail) → r .kind ≡ 11 + v
-      e′ (inl q) = e ∙ rw q
-      e′ (inr q) = e ∙ rw q
-      none : r .kind ≡ 11 + v → r .kind ≡ endKind → ⊥
-      none a b = ⊎-elim (λ (q : v ≡ 1). omega arith) (λ (q : v ≡ 2). omega arith) h
-      go : r .kind ≡ 11 + v → (x : doc.Token) → r .kind ≡ kindOf x → Sort (take (r .end - at) (drop at s)) x
-          → lexemesAt s at ≡ record { token = x; at = at } ∷ lexemesAt s (r .next) → lexemesAt s at ≡ record { token = ask v; at = at } ∷ lexemesAt s (r .next)
-      go a (word w) y z t = absurd (omega arith)
-      go a (mark c) y z t = absurd (omega arith)
-      go a (ask u) y (inl z) t = let n = rw z at y in let q : u ≡ v = omega arith in rw q at t
-      go a (ask u) y (inr z) t = let n = rw z at y in let q : u ≡ v = omega arith in rw q at t
-      go a noToken y z t = absurd (⊎-elim (λ (q : v ≡ 1). omega arith) (λ (q : v ≡ 2). omega arith) h)
 
   pub end-here : r .kind ≡ endKind → (lexemesAt s at ≡ []) × (at ≡ length s)
   end-here e = ⊎-elim (λ z. (z .tokens, z .end)) (λ z. absurd (go (z .token) (z .kind) (z .sort))) (look .what)

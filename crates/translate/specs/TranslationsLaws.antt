@@ -3,27 +3,27 @@
 use Prim.Native.Nat.{ℕ, _+_, _-_, _≤_, _<_}
 use mathlib.Core.Path.{_≡_, refl, sym, ap, ap₂, _∙_}
 use mathlib.Core.Logic.{inl, inr}
-use mathlib.Core.Bool.{Bool, true, false, cond}
-use mathlib.Core.List.{List, [], _∷_, _++_}
+use mathlib.Core.Bool.{true, false}
+use mathlib.Core.List.{List, _++_}
 use lib.ListN.{length, getD, replicate, length-append, length-replicate, getD-replicate, List·getD-append, List·getD-eq-default}
 use lib.Seq.{getD-append-add}
 use lib.Dec.{ltb}
 use native.Mathlib.Omega.{arith}
 use borrow.Author.Tests.{lt-ltb, le-ltb, ltb-true, ltb-false}
 use Rattle.document.specs.Lists.{tabulate}
-use Rattle.document.specs.Limits.{textBytes, mostEvents, mostStates}
-use Rattle.document.specs.Refusals.{Refusal, textTooLong, tooManyStates, number, Answer, taken, refused, refuseIf, andThen}
+use Rattle.document.specs.Limits.{textBytes, mostEvents}
+use Rattle.document.specs.Refusals.{Refusal, textTooLong, tooManyStates, number, Answer, taken, refused}
 use Rattle.document.specs.RefusalsLaws.{number-some}
 use Rattle.document.specs.Declarations.{Declared, declarations}
 use Rattle.document.specs.DeclarationsLaws.{declarations-offset}
 use Rattle.document.specs.Reading as doc
-use Rattle.document.specs.States.{Found, statesOf}
-use Rattle.document.specs.Translate.{propertyOf, anew, translate}
+use Rattle.document.specs.States.{statesOf}
+use Rattle.document.specs.Translate.{anew, translate}
 use Rattle.rows.specs.RowsLaws.{split-bool}
 use Rattle.words.specs.Taken.{declarations-fit}
 use Rattle.declared.specs.declared.Reading.{Reading}
 use Rattle.declared.specs.Readings.{padded, namesAt, Stands, Reads, Inside}
-use Rattle.declared.specs.ReadingsLaws.{ReadTaken, reads-taken, reads-refused}
+use Rattle.declared.specs.ReadingsLaws.{reads-taken, reads-refused}
 use Rattle.sets.specs.Shapes.{shapeOf}
 use Rattle.sets.specs.ShapesLaws.{tabulate-is}
 use Rattle.pattern.specs.declared.Parsed.{Parsed}

@@ -1,11 +1,13 @@
-use Rattle.pattern.specs.PartsLaws.{alternative-refused, alternative-over, alternative-stopped, alternative-joined, atom-missing, atom-deep, atom-stopped, atom-open, atom-closed, repetition-refused, repetition-marked, sequence-refused, sequence-over, sequence-stopped, sequence-joined, begins-after, ready-after, ready-past, ready-inside, falls-beside, falls-bar, falls-inside}
-use Prim.Native.Nat.{ℕ, _≤_, _+_, _-_, _*_, _<_}
-use mathlib.Core.Path.{_≡_, refl, sym, ap, _∙_}
-use mathlib.Core.Logic.{⊎-elim}
+-- The four readers of `pattern` meet their contracts. What falls is four times what is left of the text and the reader's kind:
+-- an alternative 3, a sequence 2, a repetition 1, an atom 0.
+-- Assumes nothing.
+use Rattle.pattern.specs.ReadersLaws.{alternative-refused, alternative-over, alternative-joined, repetition-refused, repetition-marked, sequence-refused, sequence-over, sequence-joined}
+use Rattle.pattern.specs.AtomsLaws.{atom-missing, atom-deep, atom-stopped, atom-open, atom-closed}
+use Rattle.pattern.specs.PartsLaws.{begins-after, ready-after, ready-past, ready-inside, falls-beside, falls-bar, falls-inside}
+use Prim.Native.Nat.{ℕ, _+_, _-_, _*_, _<_}
 use native.Mathlib.Omega.{arith}
 use borrow.Author.Needs.{needs}
-use lib.ListN.{length, getD}
-use Prim.Native.Nat.{ℕ, _<_}
+use lib.ListN.{length}
 use borrow.Fn.Kinds.{In}
 use borrow.Fn.PlainCycle.{Measures, is, falls, and}
 use Rattle.pattern.proofs.alternative.Reads as alternative
@@ -20,11 +22,12 @@ use Rattle.pattern.proofs.+alternative+atom+repetition+sequence.Lts-rep
 use Rattle.pattern.proofs.sequence.Reads as sequence
 use Rattle.pattern.proofs.sequence.Kinds as sequence-kinds
 use Rattle.pattern.proofs.+alternative+atom+repetition+sequence.Lts-sequence as sequence-lts
+use Rattle.pattern.proofs.beside.Reads as beside-reads
+use Rattle.pattern.proofs.either.Reads as either-reads
 use Rattle.pattern.proofs.marks.Reads as marks-reads
 use Rattle.pattern.proofs.refused_at.Reads as refused-at-reads
+use Rattle.pattern.proofs.taken_at.Reads as taken-at-reads
 use Rattle.pattern.proofs.word.Reads as word-reads
-use Rattle.sets.proofs.alternative.Reads as alternative-reads
-use Rattle.sets.proofs.sequence.Reads as sequence-reads
 use Rattle.tokens.proofs.begins_atom.Reads as begins-atom-reads
 use Rattle.tokens.proofs.look.Reads as look-reads
 use Rattle.pattern.proofs.+alternative+atom+repetition+sequence.{statement}
@@ -71,7 +74,6 @@ abbrev sequence-below : ℕ → In 3 sequence-kinds.ps
 sequence-below t =
     and 3 sequence-kinds.ps (falls 3 sequence-kinds.ps _<_ μ-sequence t) sequence.Pre
 
--- src/lib.rt:192:9
 alternative-sequence-requires : (t : ℕ) → alternative-lts.Need-sequence-requires (
   sequence-below t,
   sequence.Post,
@@ -79,12 +81,11 @@ alternative-sequence-requires : (t : ℕ) → alternative-lts.Need-sequence-requ
   look-reads.Learnt,
   alternative-below t,
   alternative.Post,
-  alternative-reads.Asked,
-  alternative-reads.Learnt,
+  either-reads.Asked,
+  either-reads.Learnt,
 ) (alternative-at t) alternative.Post
 alternative-sequence-requires t c κs = (omega arith, search needs)
 
--- src/lib.rt:194:9
 alternative-returns : (t : ℕ) → alternative-lts.Need-returns (
   sequence-below t,
   sequence.Post,
@@ -92,12 +93,11 @@ alternative-returns : (t : ℕ) → alternative-lts.Need-returns (
   look-reads.Learnt,
   alternative-below t,
   alternative.Post,
-  alternative-reads.Asked,
-  alternative-reads.Learnt,
+  either-reads.Asked,
+  either-reads.Learnt,
 ) (alternative-at t) alternative.Post
 alternative-returns t c = search (needs, alternative-refused)
 
--- src/lib.rt:196:9
 alternative-look-requires : (t : ℕ) → alternative-lts.Need-look-requires (
   sequence-below t,
   sequence.Post,
@@ -105,12 +105,11 @@ alternative-look-requires : (t : ℕ) → alternative-lts.Need-look-requires (
   look-reads.Learnt,
   alternative-below t,
   alternative.Post,
-  alternative-reads.Asked,
-  alternative-reads.Learnt,
+  either-reads.Asked,
+  either-reads.Learnt,
 ) (alternative-at t) alternative.Post
 alternative-look-requires t c κs = search (needs, begins-after)
 
--- src/lib.rt:198:9
 alternative-returns-2 : (t : ℕ) → alternative-lts.Need-returns-2 (
   sequence-below t,
   sequence.Post,
@@ -118,13 +117,12 @@ alternative-returns-2 : (t : ℕ) → alternative-lts.Need-returns-2 (
   look-reads.Learnt,
   alternative-below t,
   alternative.Post,
-  alternative-reads.Asked,
-  alternative-reads.Learnt,
+  either-reads.Asked,
+  either-reads.Learnt,
 ) (alternative-at t) alternative.Post
 alternative-returns-2 t c =
     alternative-over _ _ _ _ _ _ (c .before .before .before .before .before .sequence .ensures) _ (search needs) (c .before .before .look .ensures) (c .if2 .taken)
 
--- src/lib.rt:200:9
 alternative-alternative-requires : (t : ℕ) → alternative-lts.Need-alternative-requires (
   sequence-below t,
   sequence.Post,
@@ -132,12 +130,23 @@ alternative-alternative-requires : (t : ℕ) → alternative-lts.Need-alternativ
   look-reads.Learnt,
   alternative-below t,
   alternative.Post,
-  alternative-reads.Asked,
-  alternative-reads.Learnt,
+  either-reads.Asked,
+  either-reads.Learnt,
 ) (alternative-at t) alternative.Post
 alternative-alternative-requires t c κs = (search (needs, falls-bar), search (needs, ready-past))
 
--- src/lib.rt:202:9
+alternative-either-requires : (t : ℕ) → alternative-lts.Need-either-requires (
+  sequence-below t,
+  sequence.Post,
+  look-reads.Asked,
+  look-reads.Learnt,
+  alternative-below t,
+  alternative.Post,
+  either-reads.Asked,
+  either-reads.Learnt,
+) (alternative-at t) alternative.Post
+alternative-either-requires t c κs = search needs
+
 alternative-returns-3 : (t : ℕ) → alternative-lts.Need-returns-3 (
   sequence-below t,
   sequence.Post,
@@ -145,38 +154,11 @@ alternative-returns-3 : (t : ℕ) → alternative-lts.Need-returns-3 (
   look-reads.Learnt,
   alternative-below t,
   alternative.Post,
-  alternative-reads.Asked,
-  alternative-reads.Learnt,
+  either-reads.Asked,
+  either-reads.Learnt,
 ) (alternative-at t) alternative.Post
-alternative-returns-3 t c = search (needs, alternative-stopped)
+alternative-returns-3 t c = search (needs, alternative-joined)
 
--- src/lib.rt:206:9
-alternative-alternative-requires-2 : (t : ℕ) → alternative-lts.Need-alternative-requires-2 (
-  sequence-below t,
-  sequence.Post,
-  look-reads.Asked,
-  look-reads.Learnt,
-  alternative-below t,
-  alternative.Post,
-  alternative-reads.Asked,
-  alternative-reads.Learnt,
-) (alternative-at t) alternative.Post
-alternative-alternative-requires-2 t c κs = search needs
-
--- src/lib.rt:188:1
-alternative-returns-4 : (t : ℕ) → alternative-lts.Need-returns-4 (
-  sequence-below t,
-  sequence.Post,
-  look-reads.Asked,
-  look-reads.Learnt,
-  alternative-below t,
-  alternative.Post,
-  alternative-reads.Asked,
-  alternative-reads.Learnt,
-) (alternative-at t) alternative.Post
-alternative-returns-4 t c = search (needs, alternative-joined)
-
--- src/lib.rt:120:9
 atom-look-requires : (t : ℕ) → atom-lts.Need-look-requires (
   look-reads.Asked,
   look-reads.Learnt,
@@ -186,10 +168,11 @@ atom-look-requires : (t : ℕ) → atom-lts.Need-look-requires (
   refused-at-reads.Learnt,
   alternative-below t,
   alternative.Post,
+  taken-at-reads.Asked,
+  taken-at-reads.Learnt,
 ) (atom-at t) atom.Post
 atom-look-requires t c κs = search needs
 
--- src/lib.rt:122:9
 atom-word-requires : (t : ℕ) → atom-lts.Need-word-requires (
   look-reads.Asked,
   look-reads.Learnt,
@@ -199,10 +182,11 @@ atom-word-requires : (t : ℕ) → atom-lts.Need-word-requires (
   refused-at-reads.Learnt,
   alternative-below t,
   alternative.Post,
+  taken-at-reads.Asked,
+  taken-at-reads.Learnt,
 ) (atom-at t) atom.Post
 atom-word-requires t c κs = search needs
 
--- src/lib.rt:122:9
 atom-returns : (t : ℕ) → atom-lts.Need-returns (
   look-reads.Asked,
   look-reads.Learnt,
@@ -212,10 +196,11 @@ atom-returns : (t : ℕ) → atom-lts.Need-returns (
   refused-at-reads.Learnt,
   alternative-below t,
   alternative.Post,
+  taken-at-reads.Asked,
+  taken-at-reads.Learnt,
 ) (atom-at t) atom.Post
 atom-returns t c = search needs
 
--- src/lib.rt:125:9
 atom-refused-at-requires : (t : ℕ) → atom-lts.Need-refused-at-requires (
   look-reads.Asked,
   look-reads.Learnt,
@@ -225,10 +210,11 @@ atom-refused-at-requires : (t : ℕ) → atom-lts.Need-refused-at-requires (
   refused-at-reads.Learnt,
   alternative-below t,
   alternative.Post,
+  taken-at-reads.Asked,
+  taken-at-reads.Learnt,
 ) (atom-at t) atom.Post
 atom-refused-at-requires t c κs = search needs
 
--- src/lib.rt:125:9
 atom-returns-2 : (t : ℕ) → atom-lts.Need-returns-2 (
   look-reads.Asked,
   look-reads.Learnt,
@@ -238,10 +224,11 @@ atom-returns-2 : (t : ℕ) → atom-lts.Need-returns-2 (
   refused-at-reads.Learnt,
   alternative-below t,
   alternative.Post,
+  taken-at-reads.Asked,
+  taken-at-reads.Learnt,
 ) (atom-at t) atom.Post
 atom-returns-2 t c = search (needs, atom-missing)
 
--- src/lib.rt:128:9
 atom-refused-at-requires-2 : (t : ℕ) → atom-lts.Need-refused-at-requires-2 (
   look-reads.Asked,
   look-reads.Learnt,
@@ -251,10 +238,11 @@ atom-refused-at-requires-2 : (t : ℕ) → atom-lts.Need-refused-at-requires-2 (
   refused-at-reads.Learnt,
   alternative-below t,
   alternative.Post,
+  taken-at-reads.Asked,
+  taken-at-reads.Learnt,
 ) (atom-at t) atom.Post
 atom-refused-at-requires-2 t c κs = search needs
 
--- src/lib.rt:128:9
 atom-returns-3 : (t : ℕ) → atom-lts.Need-returns-3 (
   look-reads.Asked,
   look-reads.Learnt,
@@ -264,10 +252,11 @@ atom-returns-3 : (t : ℕ) → atom-lts.Need-returns-3 (
   refused-at-reads.Learnt,
   alternative-below t,
   alternative.Post,
+  taken-at-reads.Asked,
+  taken-at-reads.Learnt,
 ) (atom-at t) atom.Post
 atom-returns-3 t c = search (needs, atom-deep)
 
--- src/lib.rt:130:46
 atom-add-alternative : (t : ℕ) → atom-lts.Need-add-alternative (
   look-reads.Asked,
   look-reads.Learnt,
@@ -277,10 +266,11 @@ atom-add-alternative : (t : ℕ) → atom-lts.Need-add-alternative (
   refused-at-reads.Learnt,
   alternative-below t,
   alternative.Post,
+  taken-at-reads.Asked,
+  taken-at-reads.Learnt,
 ) (atom-at t) atom.Post
 atom-add-alternative t c = search needs
 
--- src/lib.rt:130:9
 atom-alternative-requires : (t : ℕ) → atom-lts.Need-alternative-requires (
   look-reads.Asked,
   look-reads.Learnt,
@@ -290,10 +280,11 @@ atom-alternative-requires : (t : ℕ) → atom-lts.Need-alternative-requires (
   refused-at-reads.Learnt,
   alternative-below t,
   alternative.Post,
+  taken-at-reads.Asked,
+  taken-at-reads.Learnt,
 ) (atom-at t) atom.Post
 atom-alternative-requires t c κs = (search (needs, falls-inside), search (needs, ready-inside))
 
--- src/lib.rt:132:9
 atom-returns-4 : (t : ℕ) → atom-lts.Need-returns-4 (
   look-reads.Asked,
   look-reads.Learnt,
@@ -303,10 +294,11 @@ atom-returns-4 : (t : ℕ) → atom-lts.Need-returns-4 (
   refused-at-reads.Learnt,
   alternative-below t,
   alternative.Post,
+  taken-at-reads.Asked,
+  taken-at-reads.Learnt,
 ) (atom-at t) atom.Post
 atom-returns-4 t c = search (needs, atom-stopped)
 
--- src/lib.rt:134:9
 atom-look-requires-2 : (t : ℕ) → atom-lts.Need-look-requires-2 (
   look-reads.Asked,
   look-reads.Learnt,
@@ -316,10 +308,11 @@ atom-look-requires-2 : (t : ℕ) → atom-lts.Need-look-requires-2 (
   refused-at-reads.Learnt,
   alternative-below t,
   alternative.Post,
+  taken-at-reads.Asked,
+  taken-at-reads.Learnt,
 ) (atom-at t) atom.Post
 atom-look-requires-2 t c κs = search (needs, begins-after)
 
--- src/lib.rt:136:9
 atom-refused-at-requires-3 : (t : ℕ) → atom-lts.Need-refused-at-requires-3 (
   look-reads.Asked,
   look-reads.Learnt,
@@ -329,10 +322,11 @@ atom-refused-at-requires-3 : (t : ℕ) → atom-lts.Need-refused-at-requires-3 (
   refused-at-reads.Learnt,
   alternative-below t,
   alternative.Post,
+  taken-at-reads.Asked,
+  taken-at-reads.Learnt,
 ) (atom-at t) atom.Post
 atom-refused-at-requires-3 t c κs = search needs
 
--- src/lib.rt:136:9
 atom-returns-5 : (t : ℕ) → atom-lts.Need-returns-5 (
   look-reads.Asked,
   look-reads.Learnt,
@@ -342,10 +336,25 @@ atom-returns-5 : (t : ℕ) → atom-lts.Need-returns-5 (
   refused-at-reads.Learnt,
   alternative-below t,
   alternative.Post,
+  taken-at-reads.Asked,
+  taken-at-reads.Learnt,
 ) (atom-at t) atom.Post
 atom-returns-5 t c = search (needs, atom-open)
 
--- src/lib.rt:116:1
+atom-taken-at-requires : (t : ℕ) → atom-lts.Need-taken-at-requires (
+  look-reads.Asked,
+  look-reads.Learnt,
+  word-reads.Asked,
+  word-reads.Learnt,
+  refused-at-reads.Asked,
+  refused-at-reads.Learnt,
+  alternative-below t,
+  alternative.Post,
+  taken-at-reads.Asked,
+  taken-at-reads.Learnt,
+) (atom-at t) atom.Post
+atom-taken-at-requires t c κs = search needs
+
 atom-returns-6 : (t : ℕ) → atom-lts.Need-returns-6 (
   look-reads.Asked,
   look-reads.Learnt,
@@ -355,10 +364,11 @@ atom-returns-6 : (t : ℕ) → atom-lts.Need-returns-6 (
   refused-at-reads.Learnt,
   alternative-below t,
   alternative.Post,
+  taken-at-reads.Asked,
+  taken-at-reads.Learnt,
 ) (atom-at t) atom.Post
 atom-returns-6 t c = search (needs, atom-closed)
 
--- src/lib.rt:152:9
 repetition-atom-requires : (t : ℕ) → repetition-lts.Need-atom-requires (
   atom-below t,
   atom.Post,
@@ -367,7 +377,6 @@ repetition-atom-requires : (t : ℕ) → repetition-lts.Need-atom-requires (
 ) (repetition-at t) repetition.Post
 repetition-atom-requires t c κs = (omega arith, search needs)
 
--- src/lib.rt:154:9
 repetition-returns : (t : ℕ) → repetition-lts.Need-returns (
   atom-below t,
   atom.Post,
@@ -376,7 +385,6 @@ repetition-returns : (t : ℕ) → repetition-lts.Need-returns (
 ) (repetition-at t) repetition.Post
 repetition-returns t c = search (needs, repetition-refused)
 
--- src/lib.rt:156:5
 repetition-marks-requires : (t : ℕ) → repetition-lts.Need-marks-requires (
   atom-below t,
   atom.Post,
@@ -385,7 +393,6 @@ repetition-marks-requires : (t : ℕ) → repetition-lts.Need-marks-requires (
 ) (repetition-at t) repetition.Post
 repetition-marks-requires t c κs = (search needs, search (needs, begins-after))
 
--- src/lib.rt:148:1
 repetition-returns-2 : (t : ℕ) → repetition-lts.Need-returns-2 (
   atom-below t,
   atom.Post,
@@ -394,7 +401,6 @@ repetition-returns-2 : (t : ℕ) → repetition-lts.Need-returns-2 (
 ) (repetition-at t) repetition.Post
 repetition-returns-2 t c = search (needs, repetition-marked)
 
--- src/lib.rt:164:9
 sequence-repetition-requires : (t : ℕ) → sequence-lts.Need-repetition-requires (
   repetition-below t,
   repetition.Post,
@@ -404,12 +410,11 @@ sequence-repetition-requires : (t : ℕ) → sequence-lts.Need-repetition-requir
   begins-atom-reads.Learnt,
   sequence-below t,
   sequence.Post,
-  sequence-reads.Asked,
-  sequence-reads.Learnt,
+  beside-reads.Asked,
+  beside-reads.Learnt,
 ) (sequence-at t) sequence.Post
 sequence-repetition-requires t c κs = (omega arith, search needs)
 
--- src/lib.rt:166:9
 sequence-returns : (t : ℕ) → sequence-lts.Need-returns (
   repetition-below t,
   repetition.Post,
@@ -419,12 +424,11 @@ sequence-returns : (t : ℕ) → sequence-lts.Need-returns (
   begins-atom-reads.Learnt,
   sequence-below t,
   sequence.Post,
-  sequence-reads.Asked,
-  sequence-reads.Learnt,
+  beside-reads.Asked,
+  beside-reads.Learnt,
 ) (sequence-at t) sequence.Post
 sequence-returns t c = search (needs, sequence-refused)
 
--- src/lib.rt:168:9
 sequence-look-requires : (t : ℕ) → sequence-lts.Need-look-requires (
   repetition-below t,
   repetition.Post,
@@ -434,12 +438,11 @@ sequence-look-requires : (t : ℕ) → sequence-lts.Need-look-requires (
   begins-atom-reads.Learnt,
   sequence-below t,
   sequence.Post,
-  sequence-reads.Asked,
-  sequence-reads.Learnt,
+  beside-reads.Asked,
+  beside-reads.Learnt,
 ) (sequence-at t) sequence.Post
 sequence-look-requires t c κs = search (needs, begins-after)
 
--- src/lib.rt:169:9
 sequence-begins-atom-requires : (t : ℕ) → sequence-lts.Need-begins-atom-requires (
   repetition-below t,
   repetition.Post,
@@ -449,12 +452,11 @@ sequence-begins-atom-requires : (t : ℕ) → sequence-lts.Need-begins-atom-requ
   begins-atom-reads.Learnt,
   sequence-below t,
   sequence.Post,
-  sequence-reads.Asked,
-  sequence-reads.Learnt,
+  beside-reads.Asked,
+  beside-reads.Learnt,
 ) (sequence-at t) sequence.Post
 sequence-begins-atom-requires t c κs = search needs
 
--- src/lib.rt:170:9
 sequence-returns-2 : (t : ℕ) → sequence-lts.Need-returns-2 (
   repetition-below t,
   repetition.Post,
@@ -464,12 +466,11 @@ sequence-returns-2 : (t : ℕ) → sequence-lts.Need-returns-2 (
   begins-atom-reads.Learnt,
   sequence-below t,
   sequence.Post,
-  sequence-reads.Asked,
-  sequence-reads.Learnt,
+  beside-reads.Asked,
+  beside-reads.Learnt,
 ) (sequence-at t) sequence.Post
 sequence-returns-2 t c = search (needs, sequence-over)
 
--- src/lib.rt:172:9
 sequence-sequence-requires : (t : ℕ) → sequence-lts.Need-sequence-requires (
   repetition-below t,
   repetition.Post,
@@ -479,12 +480,25 @@ sequence-sequence-requires : (t : ℕ) → sequence-lts.Need-sequence-requires (
   begins-atom-reads.Learnt,
   sequence-below t,
   sequence.Post,
-  sequence-reads.Asked,
-  sequence-reads.Learnt,
+  beside-reads.Asked,
+  beside-reads.Learnt,
 ) (sequence-at t) sequence.Post
 sequence-sequence-requires t c κs = (search (needs, falls-beside), search (needs, ready-after))
 
--- src/lib.rt:174:9
+sequence-beside-requires : (t : ℕ) → sequence-lts.Need-beside-requires (
+  repetition-below t,
+  repetition.Post,
+  look-reads.Asked,
+  look-reads.Learnt,
+  begins-atom-reads.Asked,
+  begins-atom-reads.Learnt,
+  sequence-below t,
+  sequence.Post,
+  beside-reads.Asked,
+  beside-reads.Learnt,
+) (sequence-at t) sequence.Post
+sequence-beside-requires t c κs = search needs
+
 sequence-returns-3 : (t : ℕ) → sequence-lts.Need-returns-3 (
   repetition-below t,
   repetition.Post,
@@ -494,40 +508,10 @@ sequence-returns-3 : (t : ℕ) → sequence-lts.Need-returns-3 (
   begins-atom-reads.Learnt,
   sequence-below t,
   sequence.Post,
-  sequence-reads.Asked,
-  sequence-reads.Learnt,
+  beside-reads.Asked,
+  beside-reads.Learnt,
 ) (sequence-at t) sequence.Post
-sequence-returns-3 t c = search (needs, sequence-stopped)
-
--- src/lib.rt:178:9
-sequence-sequence-requires-2 : (t : ℕ) → sequence-lts.Need-sequence-requires-2 (
-  repetition-below t,
-  repetition.Post,
-  look-reads.Asked,
-  look-reads.Learnt,
-  begins-atom-reads.Asked,
-  begins-atom-reads.Learnt,
-  sequence-below t,
-  sequence.Post,
-  sequence-reads.Asked,
-  sequence-reads.Learnt,
-) (sequence-at t) sequence.Post
-sequence-sequence-requires-2 t c κs = search needs
-
--- src/lib.rt:160:1
-sequence-returns-4 : (t : ℕ) → sequence-lts.Need-returns-4 (
-  repetition-below t,
-  repetition.Post,
-  look-reads.Asked,
-  look-reads.Learnt,
-  begins-atom-reads.Asked,
-  begins-atom-reads.Learnt,
-  sequence-below t,
-  sequence.Post,
-  sequence-reads.Asked,
-  sequence-reads.Learnt,
-) (sequence-at t) sequence.Post
-sequence-returns-4 t c = search (needs, sequence-joined)
+sequence-returns-3 t c = search (needs, sequence-joined)
 
 pub +alternative+atom+repetition+sequence-spec : {M : Type 1} → statement M
 +alternative+atom+repetition+sequence-spec =
@@ -538,8 +522,8 @@ pub +alternative+atom+repetition+sequence-spec : {M : Type 1} → statement M
       look-reads.Learnt,
       alternative-below t,
       alternative.Post,
-      alternative-reads.Asked,
-      alternative-reads.Learnt,
+      either-reads.Asked,
+      either-reads.Learnt,
     )
     (alternative-at t)
     alternative.Post
@@ -548,9 +532,8 @@ pub +alternative+atom+repetition+sequence-spec : {M : Type 1} → statement M
     (alternative-look-requires t)
     (alternative-returns-2 t)
     (alternative-alternative-requires t)
-    (alternative-returns-3 t)
-    (alternative-alternative-requires-2 t)
-    (alternative-returns-4 t))
+    (alternative-either-requires t)
+    (alternative-returns-3 t))
     (λ t. atom-lts.spec (
       look-reads.Asked,
       look-reads.Learnt,
@@ -560,6 +543,8 @@ pub +alternative+atom+repetition+sequence-spec : {M : Type 1} → statement M
       refused-at-reads.Learnt,
       alternative-below t,
       alternative.Post,
+      taken-at-reads.Asked,
+      taken-at-reads.Learnt,
     )
     (atom-at t)
     atom.Post
@@ -576,6 +561,7 @@ pub +alternative+atom+repetition+sequence-spec : {M : Type 1} → statement M
     (atom-look-requires-2 t)
     (atom-refused-at-requires-3 t)
     (atom-returns-5 t)
+    (atom-taken-at-requires t)
     (atom-returns-6 t))
     (λ t. repetition-lts.spec
     (atom-below t, atom.Post, marks-reads.Asked, marks-reads.Learnt)
@@ -594,8 +580,8 @@ pub +alternative+atom+repetition+sequence-spec : {M : Type 1} → statement M
       begins-atom-reads.Learnt,
       sequence-below t,
       sequence.Post,
-      sequence-reads.Asked,
-      sequence-reads.Learnt,
+      beside-reads.Asked,
+      beside-reads.Learnt,
     )
     (sequence-at t)
     sequence.Post
@@ -605,6 +591,5 @@ pub +alternative+atom+repetition+sequence-spec : {M : Type 1} → statement M
     (sequence-begins-atom-requires t)
     (sequence-returns-2 t)
     (sequence-sequence-requires t)
+    (sequence-beside-requires t)
     (sequence-returns-3 t)
-    (sequence-sequence-requires-2 t)
-    (sequence-returns-4 t)

@@ -1,7 +1,7 @@
 -- `pattern::marks` meets its contract: the marks that are left make of the part so far what all of them make of the atom.
 -- Assumes nothing.
 use lib.ListN.{length}
-use Rattle.pattern.specs.PartsLaws.{Marking, marks-first, star-less, plus-less, marks-star, marks-plus, marks-over}
+use Rattle.pattern.specs.ReadersLaws.{Marking, marks-first, star-less, plus-less, marks-star, marks-plus, marks-over}
 use Prim.Native.Nat.{_-_}
 use borrow.Author.Needs.{needs}
 use Rattle.pattern.proofs.marks.Statement.{statement}

@@ -1,6 +1,6 @@
 -- `pattern::word` meets its contract: `epsilon`, an undeclared name, one too many, a name.
 -- Assumes nothing.
-use Rattle.pattern.specs.PartsLaws.{word-epsilon, word-undeclared, word-many, word-taken}
+use Rattle.pattern.specs.AtomsLaws.{word-epsilon, word-undeclared, word-many, word-taken}
 use Prim.Native.Nat.{_-_}
 use borrow.Author.Needs.{needs}
 use Rattle.pattern.proofs.word.Statement.{statement}
@@ -15,6 +15,9 @@ part-name-start c = search needs
 part-name-end : tie.Need-part-name-end
 part-name-end c = search needs
 
+add-number : tie.Need-add-number
+add-number c = search needs
+
 slice-aggregate-same : tie.Need-slice-aggregate-same
 slice-aggregate-same c = search needs
 
@@ -23,6 +26,9 @@ same-requires c κs = search needs
 
 empty-requires : tie.Need-empty-requires
 empty-requires c κs = search needs
+
+taken-at-requires : tie.Need-taken-at-requires
+taken-at-requires c κs = search needs
 
 returns : tie.Need-returns
 returns c = search (needs, word-epsilon)
@@ -42,11 +48,11 @@ refused-at-requires-2 c κs = search needs
 returns-3 : tie.Need-returns-3
 returns-3 c = search (needs, word-many)
 
-add-number : tie.Need-add-number
-add-number c = search needs
-
 leaf-requires : tie.Need-leaf-requires
 leaf-requires c κs = search needs
+
+taken-at-requires-2 : tie.Need-taken-at-requires-2
+taken-at-requires-2 c κs = search needs
 
 returns-4 : tie.Need-returns-4
 returns-4 c = search (needs, word-taken)
@@ -58,15 +64,17 @@ word-spec =
     sub-name
     part-name-start
     part-name-end
+    add-number
     slice-aggregate-same
     same-requires
     empty-requires
+    taken-at-requires
     returns
     find-requires
     refused-at-requires
     returns-2
     refused-at-requires-2
     returns-3
-    add-number
     leaf-requires
+    taken-at-requires-2
     returns-4)
