@@ -7,7 +7,7 @@ ghost use lib.ListN.{length, getD, drop};
 ghost use Rattle.document.specs.Limits.{width, seenStride, keptStride, mostEvents, mostStates};
 ghost use Rattle.document.specs.Positions.{holds};
 ghost use Rattle.document.specs.Combinations.{includes};
-ghost use Rattle.document.specs.OneEvent.{keptAfter, reportsAfter};
+ghost use Rattle.document.specs.OneEvent.{see, keptAfter, reportsAfter};
 ghost use Rattle.document.specs.Tables.{seenRows, keptRows, seenRoom, keptRoom, reportRoom, seenTable, keptTable};
 ghost use Rattle.combos.specs.Rows.{SeenInOrder};
 ghost use Rattle.session.specs.Steps.{isNew, stepOf, stateIn, movesAt};
@@ -16,6 +16,8 @@ ghost use Rattle.session.specs.EventLaws.{one};
 ghost use Rattle.session.specs.Ready.{Onward, Binds, Joint, Keeps, Ready, RowReady, Steady};
 ghost use Rattle.session.specs.Foreseen.{tallyOf, roomRefusal, foreseenOf};
 ghost use Rattle.session.specs.Writing.{SettleReady, SettledRow, Siftable, Sifted, GrowReady, GrownRow, Growable, Grown, ReportReady, ReportedRow, Reportable, Reported};
+ghost use Rattle.session.specs.Calls.{stepBy, Leaves, Keepable, Seeable, Writable, WrittenDown};
+ghost use Rattle.judge.specs.Sound.{sessionOf};
 ghost use Rattle.session.specs.Rows.{weightOf, movedWeight};
 
 use combos::Combination;
@@ -94,6 +96,14 @@ pub struct Foreseen {
     pub kept: usize,
     pub reported: usize,
     pub fresh: bool,
+}
+
+// What a call answers: the number of refusal, or 0; the rows of both tables that count now; and the reports made.
+pub struct Answered {
+    pub refusal: u8,
+    pub seen: usize,
+    pub kept: usize,
+    pub reported: usize,
 }
 
 // The state that an event leads to.
@@ -443,4 +453,41 @@ fn report(
         i += 1;
     }
     count
+}
+
+// The kept rows after the event: those in place, then those created, then 0 where rows stood before. Rows that are dropped
+// free their room before others are put in.
+fn keep_rows(
+    next: &[u8; 1024],
+    known: Known,
+    seen: &[u32],
+    n: usize,
+    kept: &mut [u32],
+    m: usize,
+    e: usize,
+    b: Combination,
+    fresh: bool,
+)
+    requires { ⌜ Keepable (now next) (known .states) (known .hopeful) e n m b (now seen) (now kept) fresh ⌝ }
+    ensures { λ _. ⌜ now (kept .exit) ≡ keptTable (keptAfter width (stepOf (now (next .entry))) e b (seenRows n (now (seen .entry))) (stateIn (known .hopeful)) (keptRows m (now (kept .entry)))) (now (kept .entry)) ⌝ }
+{
+    let left = sift(next, known, kept, m, e, b);
+    if !fresh {
+        combos::clear(kept, left * KEPT_STRIDE, m * KEPT_STRIDE);
+        return;
+    }
+    let count = grow(next, known, seen, n, kept, left, e, b, fresh);
+    combos::clear(kept, count * KEPT_STRIDE, m * KEPT_STRIDE);
+}
+
+// "Then b is seen".
+fn see(seen: &mut [u32], n: usize, b: Combination, fresh: bool)
+    requires { ⌜ Seeable n b (now seen) fresh ⌝ }
+    ensures { λ _. ⌜ now (seen .exit) ≡ seenTable (see width b (seenRows n (now (seen .entry)))) (now (seen .entry)) ⌝ }
+{
+    if !fresh {
+        return;
+    }
+    let at = combos::place(seen, 0, SEEN_STRIDE, n, b);
+    combos::insert_seen(seen, n * SEEN_STRIDE, at * SEEN_STRIDE, b);
 }
