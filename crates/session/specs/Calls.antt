@@ -19,6 +19,7 @@ use Rattle.combos.specs.Rows.{SeenInOrder}
 use Rattle.session.specs.Steps.{isNew, stepOf, stateIn, outcomeBy}
 use Rattle.session.specs.Ready.{Steady}
 use Rattle.session.specs.declared.Answered.{Answered}
+use Rattle.session.specs.declared.Foreseen.{Foreseen}
 
 -- a report's numbers
 unfoldable pub reportNumbersBy : List ℕ → Kept → List ℕ
@@ -88,6 +89,15 @@ pub record Writable (next : List ℕ) (states hopes asks e n m from : ℕ) (b se
   pub keeps : Keepable next states hopes e n m b seen kept fresh
   pub sees : length (see width b (seenRows n seen)) ≤ seenRoom seen
   pub tells : length (reportsAfter width (stepOf next) e b (seenRows n seen) (stateIn asks) (keptRows m kept)) ≤ reportRoom (drop from reports)
+
+-- an outcome that was foreseen, with room for it
+pub record Tellable (next : List ℕ) (states hopes asks e n m from : ℕ) (b seen kept reports : List ℕ) (o : Foreseen) : Type 0 where
+  pub writes : Writable next states hopes asks e n m from b seen kept reports (o .fresh)
+  pub tells : o .reported ≡ length (reportsAfter width (stepOf next) e b (seenRows n seen) (stateIn asks) (keptRows m kept))
+
+pub record Tells (next verdicts : List ℕ) (hopes asks e n m from : ℕ) (b seen kept reports reports′ : List ℕ) : Type 0 where
+  pub told : reports′ ≡ writtenBy verdicts from (record { seenCount = n; keptCount = m; seen = seen; kept = kept }) reports
+      (outcomeBy next hopes asks (seenRows n seen) (keptRows m kept) e b) .reports
 
 -- and it is written down
 pub record WrittenDown (next verdicts : List ℕ) (hopes asks e n m from : ℕ) (b seen kept reports seen′ kept′ reports′ : List ℕ) : Type 0 where

@@ -16,7 +16,7 @@ ghost use Rattle.session.specs.EventLaws.{one};
 ghost use Rattle.session.specs.Ready.{Onward, Binds, Joint, Keeps, Ready, RowReady, Steady};
 ghost use Rattle.session.specs.Foreseen.{tallyOf, roomRefusal, foreseenOf};
 ghost use Rattle.session.specs.Writing.{SettleReady, SettledRow, Siftable, Sifted, GrowReady, GrownRow, Growable, Grown, ReportReady, ReportedRow, Reportable, Reported};
-ghost use Rattle.session.specs.Calls.{stepBy, Leaves, Keepable, Seeable, Writable, WrittenDown};
+ghost use Rattle.session.specs.Calls.{stepBy, Leaves, Keepable, Seeable, Writable, Tellable, Tells, WrittenDown};
 ghost use Rattle.judge.specs.Sound.{sessionOf};
 ghost use Rattle.session.specs.Rows.{weightOf, movedWeight};
 
@@ -490,4 +490,86 @@ fn see(seen: &mut [u32], n: usize, b: Combination, fresh: bool)
     }
     let at = combos::place(seen, 0, SEEN_STRIDE, n, b);
     combos::insert_seen(seen, n * SEEN_STRIDE, at * SEEN_STRIDE, b);
+}
+
+// The reports, of which there are this many.
+fn tell(
+    next: &[u8; 1024],
+    verdicts: &[u8; 64],
+    known: Known,
+    seen: &[u32],
+    n: usize,
+    kept: &[u32],
+    m: usize,
+    reports: &mut [u32],
+    from: usize,
+    e: usize,
+    b: Combination,
+    o: Foreseen,
+)
+    requires { ⌜ Tellable (now next) (known .states) (known .hopeful) (known .asked) e n m from b (now seen) (now kept) (now reports) o ⌝ }
+    ensures { λ _. ⌜ Tells (now (next .entry)) (now (verdicts .entry)) (known .hopeful) (known .asked) e n m from b (now (seen .entry)) (now (kept .entry)) (now (reports .entry)) (now (reports .exit)) ⌝ }
+{
+    if o.reported == 0 {
+        return;
+    }
+    report(next, verdicts, known, seen, n, kept, m, e, b, o.fresh, reports, from);
+}
+
+// Writes an outcome down for which there is room: the reports, the kept rows, and the binding as seen.
+pub fn write_down(
+    next: &[u8; 1024],
+    verdicts: &[u8; 64],
+    known: Known,
+    seen: &mut [u32],
+    n: usize,
+    kept: &mut [u32],
+    m: usize,
+    reports: &mut [u32],
+    from: usize,
+    e: usize,
+    b: Combination,
+    o: Foreseen,
+)
+    requires { ⌜ Tellable (now next) (known .states) (known .hopeful) (known .asked) e n m from b (now seen) (now kept) (now reports) o ⌝ }
+    ensures { λ _. ⌜ WrittenDown (now (next .entry)) (now (verdicts .entry)) (known .hopeful) (known .asked) e n m from b (now (seen .entry)) (now (kept .entry)) (now (reports .entry)) (now (seen .exit)) (now (kept .exit)) (now (reports .exit)) ⌝ }
+{
+    tell(next, verdicts, known, seen, n, kept, m, reports, from, e, b, o);
+    keep_rows(next, known, seen, n, kept, m, e, b, o.fresh);
+    see(seen, n, b, o.fresh);
+}
+
+// One event in a session that is sound: worked out, then written down if there is room.
+pub fn step(
+    next: &[u8; 1024],
+    verdicts: &[u8; 64],
+    known: Known,
+    seen: &mut [u32],
+    n: usize,
+    kept: &mut [u32],
+    m: usize,
+    reports: &mut [u32],
+    from: usize,
+    e: usize,
+    b: Combination,
+) -> Answered
+    requires { ⌜ Steady (now next) (known .states) e n m (now seen) (now kept) ⌝ }
+    ensures { λ r. ⌜ Leaves (stepBy (now (next .entry)) (now (verdicts .entry)) (known .hopeful) (known .asked) from (sessionOf n m (now (seen .entry)) (now (kept .entry))) (now (reports .entry)) e b) (sessionOf n m (now (seen .entry)) (now (kept .entry))) (now (reports .entry)) r (now (seen .exit)) (now (kept .exit)) (now (reports .exit)) ⌝ }
+{
+    let o = foresee(next, known, seen, n, kept, m, reports, from, e, b);
+    if o.refusal != 0 {
+        return Answered {
+            refusal: o.refusal,
+            seen: n,
+            kept: m,
+            reported: 0,
+        };
+    }
+    write_down(next, verdicts, known, seen, n, kept, m, reports, from, e, b, o);
+    Answered {
+        refusal: 0,
+        seen: o.seen,
+        kept: o.kept,
+        reported: o.reported,
+    }
 }
