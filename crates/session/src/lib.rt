@@ -19,13 +19,9 @@ ghost use Rattle.session.specs.Writing.{SettleReady, SettledRow, Siftabl
 ghost use Rattle.session.specs.Calls.{stepBy, Leaves, Keepable, Seeable, Writable, Tellable, Tells, WrittenDown};
 ghost use Rattle.judge.specs.Sound.{sessionOf};
 ghost use Rattle.session.specs.Rows.{weightOf, movedWeight};
-
 use combos::Combination;
-
 use combos::KEPT_STRIDE;
-
 use combos::SEEN_STRIDE;
-
 use combos::WIDTH;
 
 const MOST_EVENTS: usize = 16;
@@ -301,7 +297,15 @@ pub fn foresee(
 // Writing it down -------------------------------------------------------------------------------------------------------
 
 // Row i as it stays or moves in place, written after o rows; or it is dropped. Answers how many rows there are then.
-fn settle(next: &[u8; 1024], known: Known, kept: &mut [u32], i: usize, o: usize, e: usize, b: Combination) -> usize
+fn settle(
+    next: &[u8; 1024],
+    known: Known,
+    kept: &mut [u32],
+    i: usize,
+    o: usize,
+    e: usize,
+    b: Combination,
+) -> usize
     requires { ⌜ SettleReady (now next) (known .states) e i o b (now kept) ⌝ }
     ensures { λ r. ⌜ SettledRow (now (next .entry)) (known .hopeful) e i o b (now (kept .entry)) (now (kept .exit)) r ⌝ }
 {
@@ -321,7 +325,14 @@ fn settle(next: &[u8; 1024], known: Known, kept: &mut [u32], i: usize, o: usize,
 }
 
 // Every row, upwards. Answers how many are left.
-fn sift(next: &[u8; 1024], known: Known, kept: &mut [u32], m: usize, e: usize, b: Combination) -> usize
+fn sift(
+    next: &[u8; 1024],
+    known: Known,
+    kept: &mut [u32],
+    m: usize,
+    e: usize,
+    b: Combination,
+) -> usize
     requires { ⌜ Siftable (now next) (known .states) e m b (now kept) ⌝ }
     ensures { λ r. ⌜ Sifted (now (next .entry)) (known .hopeful) e m b (now (kept .entry)) (now (kept .exit)) r ⌝ }
 {
@@ -449,7 +460,21 @@ fn report(
     let mut count: usize = 0;
     let mut i: usize = 0;
     while i < m {
-        count = report_row(next, verdicts, known, seen, n, kept, i, e, b, fresh, reports, from, count);
+        count = report_row(
+            next,
+            verdicts,
+            known,
+            seen,
+            n,
+            kept,
+            i,
+            e,
+            b,
+            fresh,
+            reports,
+            from,
+            count,
+        );
         i += 1;
     }
     count
@@ -513,7 +538,20 @@ fn tell(
     if o.reported == 0 {
         return;
     }
-    report(next, verdicts, known, seen, n, kept, m, e, b, o.fresh, reports, from);
+    report(
+        next,
+        verdicts,
+        known,
+        seen,
+        n,
+        kept,
+        m,
+        e,
+        b,
+        o.fresh,
+        reports,
+        from,
+    );
 }
 
 // Writes an outcome down for which there is room: the reports, the kept rows, and the binding as seen.
@@ -534,7 +572,20 @@ pub fn write_down(
     requires { ⌜ Tellable (now next) (known .states) (known .hopeful) (known .asked) e n m from b (now seen) (now kept) (now reports) o ⌝ }
     ensures { λ _. ⌜ WrittenDown (now (next .entry)) (now (verdicts .entry)) (known .hopeful) (known .asked) e n m from b (now (seen .entry)) (now (kept .entry)) (now (reports .entry)) (now (seen .exit)) (now (kept .exit)) (now (reports .exit)) ⌝ }
 {
-    tell(next, verdicts, known, seen, n, kept, m, reports, from, e, b, o);
+    tell(
+        next,
+        verdicts,
+        known,
+        seen,
+        n,
+        kept,
+        m,
+        reports,
+        from,
+        e,
+        b,
+        o,
+    );
     keep_rows(next, known, seen, n, kept, m, e, b, o.fresh);
     see(seen, n, b, o.fresh);
 }
@@ -565,7 +616,20 @@ pub fn step(
             reported: 0,
         };
     }
-    write_down(next, verdicts, known, seen, n, kept, m, reports, from, e, b, o);
+    write_down(
+        next,
+        verdicts,
+        known,
+        seen,
+        n,
+        kept,
+        m,
+        reports,
+        from,
+        e,
+        b,
+        o,
+    );
     Answered {
         refusal: 0,
         seen: o.seen,

@@ -1,6 +1,7 @@
 -- `session::step` meets its contract: worked out, then refused with nothing altered or written down.
 -- Assumes nothing.
 use Rattle.session.specs.WriteLaws.{step-refused, step-tellable, step-taken}
+use mathlib.Core.List.{[]}
 use Prim.Native.Nat.{_-_}
 use borrow.Author.Needs.{needs}
 use Rattle.session.proofs.step.Statement.{statement}
@@ -22,7 +23,7 @@ returns : tie.Need-returns
 returns c = search (needs, step-refused)
 
 write-down-requires : tie.Need-write-down-requires
-write-down-requires c κs = search (needs, step-tellable)
+write-down-requires c κs = step-tellable _ [] _ _ _ _ _ _ _ _ _ _ _ _ (c .before .before .before .before .before .foresee .ensures) (c .before .before .before .if1 .left) (c .before .before .before .before .before .before .before .before .before .before .before .before .pre) (let g = c .before .before .before .before .before .before .before .before .before .before .before .before .good in search needs)
 
 same-length-4 : tie.Need-same-length-4
 same-length-4 c = search needs
