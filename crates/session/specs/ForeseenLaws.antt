@@ -134,7 +134,7 @@ module _ (s sr k kr r rr : ℕ) where
 
 -- The outcome, counted -------------------------------------------------------------------------------------------------
 
-length-insertSeen : (b : List ℕ) (l : List (List ℕ)) → length (insertSeen b l) ≡ suc (length l)
+pub length-insertSeen : (b : List ℕ) (l : List (List ℕ)) → length (insertSeen b l) ≡ suc (length l)
 length-insertSeen b [] = unfold insertSeen in refl
 length-insertSeen b (x ∷ l) = elim (either (precedes x b)) [
   | inl e ↦ rw (insertSeen-after b x l e) (ap suc (length-insertSeen b l))

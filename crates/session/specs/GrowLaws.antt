@@ -283,4 +283,6 @@ growing-ends next states hopes e n m i count b seen t₀ t fresh u h =
     let c : m - 0 ≡ m = omega arith in
     let r : keptFrom (count - 0) t (0 * keptStride) ≡ grown (stepOf next) e b (seenRows n seen) (stateIn hopes) (keptFrom (m - 0) t₀ (0 * keptStride)) =
     subst (λ (x : ℕ). keptFrom (count - x) t (x * keptStride) ≡ grown (stepOf next) e b (seenRows n seen) (stateIn hopes) (keptFrom (m - x) t₀ (x * keptStride))) q (u .rows) in
-    record { rows = rw (a, c) at r; high = u .high }
+    let rows : keptFrom count t 0 ≡ grown (stepOf next) e b (seenRows n seen) (stateIn hopes) (keptFrom m t₀ 0) = rw (a, c) at r in
+    let l : length (grown (stepOf next) e b (seenRows n seen) (stateIn hopes) (keptFrom m t₀ 0)) ≡ count = ap length (sym rows) ∙ length-keptFrom count t 0 in
+    record { rows = rows; high = u .high; fits = let f = u .able .room in omega arith }

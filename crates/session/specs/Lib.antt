@@ -11,3 +11,5 @@ pub mod Writing
 pub mod SiftLaws
 pub mod GrowLaws
 pub mod ReportLaws
+pub mod Calls
+pub mod WriteLaws

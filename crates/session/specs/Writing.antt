@@ -74,6 +74,7 @@ pub record Growable (next : List ℕ) (states hopes e n m : ℕ) (b seen t : Lis
 pub record Grown (next : List ℕ) (hopes e n m : ℕ) (b seen t t′ : List ℕ) (r : ℕ) : Type 0 where
   pub rows : keptFrom r t′ 0 ≡ grown (stepOf next) e b (seenRows n seen) (stateIn hopes) (keptFrom m t 0)
   pub high : (k : ℕ) → r * keptStride ≤ k → getD t′ k 0 ≡ getD t k 0
+  pub fits : r * keptStride ≤ length t
 
 -- Reports --------------------------------------------------------------------------------------------------------------
 

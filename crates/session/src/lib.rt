@@ -7,7 +7,7 @@ ghost use lib.ListN.{length, getD, drop};
 ghost use Rattle.document.specs.Limits.{width, seenStride, keptStride, mostEvents, mostStates};
 ghost use Rattle.document.specs.Positions.{holds};
 ghost use Rattle.document.specs.Combinations.{includes};
-ghost use Rattle.document.specs.OneEvent.{keptAfter, reportsAfter};
+ghost use Rattle.document.specs.OneEvent.{see, keptAfter, reportsAfter};
 ghost use Rattle.document.specs.Tables.{seenRows, keptRows, seenRoom, keptRoom, reportRoom, seenTable, keptTable};
 ghost use Rattle.combos.specs.Rows.{SeenInOrder};
 ghost use Rattle.session.specs.Steps.{isNew, stepOf, stateIn, movesAt};
@@ -16,14 +16,12 @@ ghost use Rattle.session.specs.EventLaws.{one};
 ghost use Rattle.session.specs.Ready.{Onward, Binds, Joint, Keeps, Ready, RowReady, Steady};
 ghost use Rattle.session.specs.Foreseen.{tallyOf, roomRefusal, foreseenOf};
 ghost use Rattle.session.specs.Writing.{SettleReady, SettledRow, Siftable, Sifted, GrowReady, GrownRow, Growable, Grown, ReportReady, ReportedRow, Reportable, Reported};
+ghost use Rattle.session.specs.Calls.{stepBy, Leaves, Keepable, Seeable, Writable, Tellable, Tells, WrittenDown};
+ghost use Rattle.judge.specs.Sound.{sessionOf};
 ghost use Rattle.session.specs.Rows.{weightOf, movedWeight};
-
 use combos::Combination;
-
 use combos::KEPT_STRIDE;
-
 use combos::SEEN_STRIDE;
-
 use combos::WIDTH;
 
 const MOST_EVENTS: usize = 16;
@@ -94,6 +92,14 @@ pub struct Foreseen {
     pub kept: usize,
     pub reported: usize,
     pub fresh: bool,
+}
+
+// What a call answers: the number of refusal, or 0; the rows of both tables that count now; and the reports made.
+pub struct Answered {
+    pub refusal: u8,
+    pub seen: usize,
+    pub kept: usize,
+    pub reported: usize,
 }
 
 // The state that an event leads to.
@@ -291,7 +297,15 @@ pub fn foresee(
 // Writing it down -------------------------------------------------------------------------------------------------------
 
 // Row i as it stays or moves in place, written after o rows; or it is dropped. Answers how many rows there are then.
-fn settle(next: &[u8; 1024], known: Known, kept: &mut [u32], i: usize, o: usize, e: usize, b: Combination) -> usize
+fn settle(
+    next: &[u8; 1024],
+    known: Known,
+    kept: &mut [u32],
+    i: usize,
+    o: usize,
+    e: usize,
+    b: Combination,
+) -> usize
     requires { ⌜ SettleReady (now next) (known .states) e i o b (now kept) ⌝ }
     ensures { λ r. ⌜ SettledRow (now (next .entry)) (known .hopeful) e i o b (now (kept .entry)) (now (kept .exit)) r ⌝ }
 {
@@ -311,7 +325,14 @@ fn settle(next: &[u8; 1024], known: Known, kept: &mut [u32], i: usize, o: usize,
 }
 
 // Every row, upwards. Answers how many are left.
-fn sift(next: &[u8; 1024], known: Known, kept: &mut [u32], m: usize, e: usize, b: Combination) -> usize
+fn sift(
+    next: &[u8; 1024],
+    known: Known,
+    kept: &mut [u32],
+    m: usize,
+    e: usize,
+    b: Combination,
+) -> usize
     requires { ⌜ Siftable (now next) (known .states) e m b (now kept) ⌝ }
     ensures { λ r. ⌜ Sifted (now (next .entry)) (known .hopeful) e m b (now (kept .entry)) (now (kept .exit)) r ⌝ }
 {
@@ -439,8 +460,180 @@ fn report(
     let mut count: usize = 0;
     let mut i: usize = 0;
     while i < m {
-        count = report_row(next, verdicts, known, seen, n, kept, i, e, b, fresh, reports, from, count);
+        count = report_row(
+            next,
+            verdicts,
+            known,
+            seen,
+            n,
+            kept,
+            i,
+            e,
+            b,
+            fresh,
+            reports,
+            from,
+            count,
+        );
         i += 1;
     }
     count
+}
+
+// The kept rows after the event: those in place, then those created, then 0 where rows stood before. Rows that are dropped
+// free their room before others are put in.
+fn keep_rows(
+    next: &[u8; 1024],
+    known: Known,
+    seen: &[u32],
+    n: usize,
+    kept: &mut [u32],
+    m: usize,
+    e: usize,
+    b: Combination,
+    fresh: bool,
+)
+    requires { ⌜ Keepable (now next) (known .states) (known .hopeful) e n m b (now seen) (now kept) fresh ⌝ }
+    ensures { λ _. ⌜ now (kept .exit) ≡ keptTable (keptAfter width (stepOf (now (next .entry))) e b (seenRows n (now (seen .entry))) (stateIn (known .hopeful)) (keptRows m (now (kept .entry)))) (now (kept .entry)) ⌝ }
+{
+    let left = sift(next, known, kept, m, e, b);
+    if !fresh {
+        combos::clear(kept, left * KEPT_STRIDE, m * KEPT_STRIDE);
+        return;
+    }
+    let count = grow(next, known, seen, n, kept, left, e, b, fresh);
+    combos::clear(kept, count * KEPT_STRIDE, m * KEPT_STRIDE);
+}
+
+// "Then b is seen".
+fn see(seen: &mut [u32], n: usize, b: Combination, fresh: bool)
+    requires { ⌜ Seeable n b (now seen) fresh ⌝ }
+    ensures { λ _. ⌜ now (seen .exit) ≡ seenTable (see width b (seenRows n (now (seen .entry)))) (now (seen .entry)) ⌝ }
+{
+    if !fresh {
+        return;
+    }
+    let at = combos::place(seen, 0, SEEN_STRIDE, n, b);
+    combos::insert_seen(seen, n * SEEN_STRIDE, at * SEEN_STRIDE, b);
+}
+
+// The reports, of which there are this many.
+fn tell(
+    next: &[u8; 1024],
+    verdicts: &[u8; 64],
+    known: Known,
+    seen: &[u32],
+    n: usize,
+    kept: &[u32],
+    m: usize,
+    reports: &mut [u32],
+    from: usize,
+    e: usize,
+    b: Combination,
+    o: Foreseen,
+)
+    requires { ⌜ Tellable (now next) (known .states) (known .hopeful) (known .asked) e n m from b (now seen) (now kept) (now reports) o ⌝ }
+    ensures { λ _. ⌜ Tells (now (next .entry)) (now (verdicts .entry)) (known .hopeful) (known .asked) e n m from b (now (seen .entry)) (now (kept .entry)) (now (reports .entry)) (now (reports .exit)) ⌝ }
+{
+    if o.reported == 0 {
+        return;
+    }
+    report(
+        next,
+        verdicts,
+        known,
+        seen,
+        n,
+        kept,
+        m,
+        e,
+        b,
+        o.fresh,
+        reports,
+        from,
+    );
+}
+
+// Writes an outcome down for which there is room: the reports, the kept rows, and the binding as seen.
+pub fn write_down(
+    next: &[u8; 1024],
+    verdicts: &[u8; 64],
+    known: Known,
+    seen: &mut [u32],
+    n: usize,
+    kept: &mut [u32],
+    m: usize,
+    reports: &mut [u32],
+    from: usize,
+    e: usize,
+    b: Combination,
+    o: Foreseen,
+)
+    requires { ⌜ Tellable (now next) (known .states) (known .hopeful) (known .asked) e n m from b (now seen) (now kept) (now reports) o ⌝ }
+    ensures { λ _. ⌜ WrittenDown (now (next .entry)) (now (verdicts .entry)) (known .hopeful) (known .asked) e n m from b (now (seen .entry)) (now (kept .entry)) (now (reports .entry)) (now (seen .exit)) (now (kept .exit)) (now (reports .exit)) ⌝ }
+{
+    tell(
+        next,
+        verdicts,
+        known,
+        seen,
+        n,
+        kept,
+        m,
+        reports,
+        from,
+        e,
+        b,
+        o,
+    );
+    keep_rows(next, known, seen, n, kept, m, e, b, o.fresh);
+    see(seen, n, b, o.fresh);
+}
+
+// One event in a session that is sound: worked out, then written down if there is room.
+pub fn step(
+    next: &[u8; 1024],
+    verdicts: &[u8; 64],
+    known: Known,
+    seen: &mut [u32],
+    n: usize,
+    kept: &mut [u32],
+    m: usize,
+    reports: &mut [u32],
+    from: usize,
+    e: usize,
+    b: Combination,
+) -> Answered
+    requires { ⌜ Steady (now next) (known .states) e n m (now seen) (now kept) ⌝ }
+    ensures { λ r. ⌜ Leaves (stepBy (now (next .entry)) (now (verdicts .entry)) (known .hopeful) (known .asked) from (sessionOf n m (now (seen .entry)) (now (kept .entry))) (now (reports .entry)) e b) (sessionOf n m (now (seen .entry)) (now (kept .entry))) (now (reports .entry)) r (now (seen .exit)) (now (kept .exit)) (now (reports .exit)) ⌝ }
+{
+    let o = foresee(next, known, seen, n, kept, m, reports, from, e, b);
+    if o.refusal != 0 {
+        return Answered {
+            refusal: o.refusal,
+            seen: n,
+            kept: m,
+            reported: 0,
+        };
+    }
+    write_down(
+        next,
+        verdicts,
+        known,
+        seen,
+        n,
+        kept,
+        m,
+        reports,
+        from,
+        e,
+        b,
+        o,
+    );
+    Answered {
+        refusal: 0,
+        seen: o.seen,
+        kept: o.kept,
+        reported: o.reported,
+    }
 }
