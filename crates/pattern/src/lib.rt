@@ -59,7 +59,17 @@ fn refused_at(refusal: u8, at: usize) -> Part
 }
 
 // An event name, or `epsilon`: 7 before 8.
-fn word<'a, 'b, 'c>(text: &'a [u8], at: usize, t: tokens::Step, names: usize, depth: usize, declarations: &'b [u8], starts: &'c [usize; 16], sizes: &'c [usize; 16], events: usize) -> Part
+fn word<'a, 'b, 'c>(
+    text: &'a [u8],
+    at: usize,
+    t: tokens::Step,
+    names: usize,
+    depth: usize,
+    declarations: &'b [u8],
+    starts: &'c [usize; 16],
+    sizes: &'c [usize; 16],
+    events: usize,
+) -> Part
     requires { ⌜ Ready (now text) at names depth (now declarations) (now starts) (now sizes) events × (Looks (now text) at t × (t .kind ≡ wordKind)) ⌝ }
     ensures { λ r. ⌜ Answers (readAtom (namesAt (now (declarations .entry)) events (now (starts .entry)) (now (sizes .entry)))) 0 (now (text .entry)) at names depth r ⌝ }
 {
@@ -116,13 +126,32 @@ fn marks(text: &[u8], a: Part) -> Part
 
 // An event name, `epsilon`, or an alternative in parentheses. The nesting is judged before the alternative is read, so that
 // the depth of the calls stays within what 16 parentheses ask.
-pub fn atom<'a, 'b, 'c>(text: &'a [u8], at: usize, names: usize, depth: usize, declarations: &'b [u8], starts: &'c [usize; 16], sizes: &'c [usize; 16], events: usize) -> Part
+pub fn atom<'a, 'b, 'c>(
+    text: &'a [u8],
+    at: usize,
+    names: usize,
+    depth: usize,
+    declarations: &'b [u8],
+    starts: &'c [usize; 16],
+    sizes: &'c [usize; 16],
+    events: usize,
+) -> Part
     requires { ⌜ Ready (now text) at names depth (now declarations) (now starts) (now sizes) events ⌝ }
     ensures { λ r. ⌜ Answers (readAtom (namesAt (now (declarations .entry)) events (now (starts .entry)) (now (sizes .entry)))) 0 (now (text .entry)) at names depth r ⌝ }
 {
     let t = tokens::look(text, at);
     if t.kind == tokens::WORD {
-        return word(text, at, t, names, depth, declarations, starts, sizes, events);
+        return word(
+            text,
+            at,
+            t,
+            names,
+            depth,
+            declarations,
+            starts,
+            sizes,
+            events,
+        );
     }
     if t.kind != classes::OPENING {
         return refused_at(refusals::NOT_OF_GRAMMAR, at);
@@ -130,7 +159,16 @@ pub fn atom<'a, 'b, 'c>(text: &'a [u8], at: usize, names: usize, depth: usize, d
     if MOST_OPEN <= depth {
         return refused_at(refusals::TOO_DEEP, at);
     }
-    let a = alternative(text, t.next, names, depth + 1, declarations, starts, sizes, events);
+    let a = alternative(
+        text,
+        t.next,
+        names,
+        depth + 1,
+        declarations,
+        starts,
+        sizes,
+        events,
+    );
     if a.refusal != refusals::TAKEN {
         return a;
     }
@@ -148,7 +186,16 @@ pub fn atom<'a, 'b, 'c>(text: &'a [u8], at: usize, names: usize, depth: usize, d
 }
 
 // An atom followed by any number of `*` or `+`.
-pub fn repetition<'a, 'b, 'c>(text: &'a [u8], at: usize, names: usize, depth: usize, declarations: &'b [u8], starts: &'c [usize; 16], sizes: &'c [usize; 16], events: usize) -> Part
+pub fn repetition<'a, 'b, 'c>(
+    text: &'a [u8],
+    at: usize,
+    names: usize,
+    depth: usize,
+    declarations: &'b [u8],
+    starts: &'c [usize; 16],
+    sizes: &'c [usize; 16],
+    events: usize,
+) -> Part
     requires { ⌜ Ready (now text) at names depth (now declarations) (now starts) (now sizes) events ⌝ }
     ensures { λ r. ⌜ Answers (readRepetition (namesAt (now (declarations .entry)) events (now (starts .entry)) (now (sizes .entry)))) 1 (now (text .entry)) at names depth r ⌝ }
 {
@@ -160,7 +207,16 @@ pub fn repetition<'a, 'b, 'c>(text: &'a [u8], at: usize, names: usize, depth: us
 }
 
 // One or more repetitions side by side.
-pub fn sequence<'a, 'b, 'c>(text: &'a [u8], at: usize, names: usize, depth: usize, declarations: &'b [u8], starts: &'c [usize; 16], sizes: &'c [usize; 16], events: usize) -> Part
+pub fn sequence<'a, 'b, 'c>(
+    text: &'a [u8],
+    at: usize,
+    names: usize,
+    depth: usize,
+    declarations: &'b [u8],
+    starts: &'c [usize; 16],
+    sizes: &'c [usize; 16],
+    events: usize,
+) -> Part
     requires { ⌜ Ready (now text) at names depth (now declarations) (now starts) (now sizes) events ⌝ }
     ensures { λ r. ⌜ Answers (readSequence (namesAt (now (declarations .entry)) events (now (starts .entry)) (now (sizes .entry)))) 2 (now (text .entry)) at names depth r ⌝ }
 {
@@ -172,7 +228,16 @@ pub fn sequence<'a, 'b, 'c>(text: &'a [u8], at: usize, names: usize, depth: usiz
     if !tokens::begins_atom(t.kind) {
         return a;
     }
-    let b = sequence(text, a.at, a.names, depth, declarations, starts, sizes, events);
+    let b = sequence(
+        text,
+        a.at,
+        a.names,
+        depth,
+        declarations,
+        starts,
+        sizes,
+        events,
+    );
     if b.refusal != refusals::TAKEN {
         return b;
     }
@@ -188,7 +253,16 @@ pub fn sequence<'a, 'b, 'c>(text: &'a [u8], at: usize, names: usize, depth: usiz
 }
 
 // One or more sequences separated by `|`.
-pub fn alternative<'a, 'b, 'c>(text: &'a [u8], at: usize, names: usize, depth: usize, declarations: &'b [u8], starts: &'c [usize; 16], sizes: &'c [usize; 16], events: usize) -> Part
+pub fn alternative<'a, 'b, 'c>(
+    text: &'a [u8],
+    at: usize,
+    names: usize,
+    depth: usize,
+    declarations: &'b [u8],
+    starts: &'c [usize; 16],
+    sizes: &'c [usize; 16],
+    events: usize,
+) -> Part
     requires { ⌜ Ready (now text) at names depth (now declarations) (now starts) (now sizes) events ⌝ }
     ensures { λ r. ⌜ Answers (readAlternative (namesAt (now (declarations .entry)) events (now (starts .entry)) (now (sizes .entry)))) 3 (now (text .entry)) at names depth r ⌝ }
 {
@@ -200,7 +274,16 @@ pub fn alternative<'a, 'b, 'c>(text: &'a [u8], at: usize, names: usize, depth: u
     if t.kind != classes::BAR {
         return a;
     }
-    let b = alternative(text, t.next, a.names, depth, declarations, starts, sizes, events);
+    let b = alternative(
+        text,
+        t.next,
+        a.names,
+        depth,
+        declarations,
+        starts,
+        sizes,
+        events,
+    );
     if b.refusal != refusals::TAKEN {
         return b;
     }
@@ -289,7 +372,13 @@ fn asks(text: &[u8], a: Part) -> Parsed
 }
 
 // A whole pattern text: `ere`, `:`, an alternative, and the verdicts asked for.
-pub fn parse<'a, 'b, 'c>(text: &'a [u8], declarations: &'b [u8], starts: &'c [usize; 16], sizes: &'c [usize; 16], events: usize) -> Parsed
+pub fn parse<'a, 'b, 'c>(
+    text: &'a [u8],
+    declarations: &'b [u8],
+    starts: &'c [usize; 16],
+    sizes: &'c [usize; 16],
+    events: usize,
+) -> Parsed
     requires { ⌜ Inside (now declarations) (now starts) (now sizes) × (events ≤ mostEvents) ⌝ }
     ensures { λ r. ⌜ r ≡ parsedOf (parse (namesAt (now (declarations .entry)) events (now (starts .entry)) (now (sizes .entry))) (now (text .entry))) ⌝ }
 {

@@ -484,9 +484,9 @@ module _ (step : ℕ → ℕ → ℕ) (e : ℕ) (b : List ℕ) (seen : List (Lis
         to-rows : (x : Kept) → Settles l x → In x new ⊎ In x same
         to-rows x s = elim (either (inPlace step e b seen (s .row))) [
           | inl h ↦ inl (rw (s .is ∙ settled-in (s .row) h) (in-keepIf keeps (moved width step e b seen l) (to (s .row)) .1 (
-              moved-in l (s .row) (s .member) (so (in-place-moves (s .row) (f (s .row) (s .member)) h)),
-              so (sym (remains-in (s .row) h) ∙ s .remains),
-            )))
+            moved-in l (s .row) (s .member) (so (in-place-moves (s .row) (f (s .row) (s .member)) h)),
+            so (sym (remains-in (s .row) h) ∙ s .remains),
+          )))
           | inr h ↦ inr (rw (s .is ∙ settled-out (s .row) h) (in-keepIf stays l (s .row) .1 (s .member, of-not (includes (s .row .combination) b) (not-so h))))
         ]
 
@@ -560,8 +560,13 @@ module _ (step : ℕ → ℕ → ℕ) (e : ℕ) (b : List ℕ) (seen : List (Lis
     pub report-count : (l : List Kept) (k : Kept) → length (reports (l ++ (k ∷ []))) ≡ length (reports l) + one (may k && keeps (to k))
     unfolding reportsAfter keepIf
     report-count l k =
-        rw (length-inOrder, length-inOrder (keepIf keeps (moved width step e b seen l)), moved-more l k, keepIf-append keeps (moved width step e b seen l) (consIf (may k) (to k) []),
-        length-append (keepIf keeps (moved width step e b seen l)) (keepIf keeps (consIf (may k) (to k) [])))
+        rw (
+          length-inOrder,
+          length-inOrder (keepIf keeps (moved width step e b seen l)),
+          moved-more l k,
+          keepIf-append keeps (moved width step e b seen l) (consIf (may k) (to k) []),
+          length-append (keepIf keeps (moved width step e b seen l)) (keepIf keeps (consIf (may k) (to k) [])),
+        )
         (elim (either (may k)) [
           | inl m ↦ elim (either (keeps (to k))) [ inl t ↦ rw (m, t) | inr t ↦ rw (m, t) ]
           | inr m ↦ rw m
@@ -575,10 +580,14 @@ module _ (step : ℕ → ℕ → ℕ) (e : ℕ) (b : List ℕ) (seen : List (Lis
         let a : length (keepIf keeps (moved width step e b seen (l ++ (k ∷ [])))) ≡ length (keepIf keeps (moved width step e b seen l)) + one (may k && keeps (to k)) =
         rw (length-inOrder, length-inOrder (keepIf keeps (moved width step e b seen l))) at n in
         let s : length (keepIf stays (l ++ (k ∷ []))) ≡ length (keepIf stays l) + one (stays k) = length-keepIf-more stays l k in
-        rw (length-inOrder (keepIf keeps (moved width step e b seen (l ++ (k ∷ []))) ++ keepIf stays (l ++ (k ∷ []))),
-        length-inOrder (keepIf keeps (moved width step e b seen l) ++ keepIf stays l),
-        length-append (keepIf keeps (moved width step e b seen (l ++ (k ∷ [])))) (keepIf stays (l ++ (k ∷ []))),
-        length-append (keepIf keeps (moved width step e b seen l)) (keepIf stays l), a, s) (omega arith)
+        rw (
+          length-inOrder (keepIf keeps (moved width step e b seen (l ++ (k ∷ []))) ++ keepIf stays (l ++ (k ∷ []))),
+          length-inOrder (keepIf keeps (moved width step e b seen l) ++ keepIf stays l),
+          length-append (keepIf keeps (moved width step e b seen (l ++ (k ∷ [])))) (keepIf stays (l ++ (k ∷ []))),
+          length-append (keepIf keeps (moved width step e b seen l)) (keepIf stays l),
+          a,
+          s,
+        ) (omega arith)
 
     -- A binding that creates nothing -----------------------------------------------------------------------------------
 

@@ -17,13 +17,9 @@ ghost use Rattle.session.specs.Ready.{Onward, Binds, Joint, Keeps, Ready
 ghost use Rattle.session.specs.Foreseen.{tallyOf, roomRefusal, foreseenOf};
 ghost use Rattle.session.specs.Writing.{SettleReady, SettledRow, Siftable, Sifted, GrowReady, GrownRow, Growable, Grown, ReportReady, ReportedRow, Reportable, Reported};
 ghost use Rattle.session.specs.Rows.{weightOf, movedWeight};
-
 use combos::Combination;
-
 use combos::KEPT_STRIDE;
-
 use combos::SEEN_STRIDE;
-
 use combos::WIDTH;
 
 const MOST_EVENTS: usize = 16;
@@ -291,7 +287,15 @@ pub fn foresee(
 // Writing it down -------------------------------------------------------------------------------------------------------
 
 // Row i as it stays or moves in place, written after o rows; or it is dropped. Answers how many rows there are then.
-fn settle(next: &[u8; 1024], known: Known, kept: &mut [u32], i: usize, o: usize, e: usize, b: Combination) -> usize
+fn settle(
+    next: &[u8; 1024],
+    known: Known,
+    kept: &mut [u32],
+    i: usize,
+    o: usize,
+    e: usize,
+    b: Combination,
+) -> usize
     requires { ⌜ SettleReady (now next) (known .states) e i o b (now kept) ⌝ }
     ensures { λ r. ⌜ SettledRow (now (next .entry)) (known .hopeful) e i o b (now (kept .entry)) (now (kept .exit)) r ⌝ }
 {
@@ -311,7 +315,14 @@ fn settle(next: &[u8; 1024], known: Known, kept: &mut [u32], i: usize, o: usize,
 }
 
 // Every row, upwards. Answers how many are left.
-fn sift(next: &[u8; 1024], known: Known, kept: &mut [u32], m: usize, e: usize, b: Combination) -> usize
+fn sift(
+    next: &[u8; 1024],
+    known: Known,
+    kept: &mut [u32],
+    m: usize,
+    e: usize,
+    b: Combination,
+) -> usize
     requires { ⌜ Siftable (now next) (known .states) e m b (now kept) ⌝ }
     ensures { λ r. ⌜ Sifted (now (next .entry)) (known .hopeful) e m b (now (kept .entry)) (now (kept .exit)) r ⌝ }
 {
@@ -439,7 +450,21 @@ fn report(
     let mut count: usize = 0;
     let mut i: usize = 0;
     while i < m {
-        count = report_row(next, verdicts, known, seen, n, kept, i, e, b, fresh, reports, from, count);
+        count = report_row(
+            next,
+            verdicts,
+            known,
+            seen,
+            n,
+            kept,
+            i,
+            e,
+            b,
+            fresh,
+            reports,
+            from,
+            count,
+        );
         i += 1;
     }
     count

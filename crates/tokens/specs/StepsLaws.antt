@@ -125,8 +125,10 @@ module _ (s : List ℕ) (at : ℕ) (r : Step) (look : Looks s at r) where
       e′ : (v ≡ match) ⊎ (v ≡ fail) → r .kind ≡ 11 + v
       e′ (inl q) = e ∙ rw q
       e′ (inr q) = e ∙ rw q
+
       none : r .kind ≡ 11 + v → r .kind ≡ endKind → ⊥
       none a b = ⊎-elim (λ (q : v ≡ 1). omega arith) (λ (q : v ≡ 2). omega arith) h
+
       go : r .kind ≡ 11 + v → (x : doc.Token) → r .kind ≡ kindOf x → Sort (take (r .end - at) (drop at s)) x
           → lexemesAt s at ≡ record { token = x; at = at } ∷ lexemesAt s (r .next) → lexemesAt s at ≡ record { token = ask v; at = at } ∷ lexemesAt s (r .next)
       go a (word w) y z t = absurd (omega arith)

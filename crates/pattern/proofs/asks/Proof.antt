@@ -32,7 +32,7 @@ asked-by-requires-2 : tie.Need-asked-by-requires-2
 asked-by-requires-2 c κs = search needs
 
 add-if3 : tie.Need-add-if3
-add-if3 c = 
+add-if3 c =
     let v = asked-small (c .before .before .before .before .before .before .look .result .kind) _ (c .before .before .before .before .before .asked-by .ensures) in
     let w = asked-small (c .before .look2 .result .kind) _ (c .asked-by2 .ensures) in
     omega arith
