@@ -9,6 +9,7 @@ use memory::Memory;
 mod declarations;
 mod input;
 mod memory;
+mod patterns;
 mod properties;
 mod tables;
 mod texts;
@@ -65,8 +66,25 @@ pub(crate) fn refused(out: &mut [u8], filled: usize, refusal: u8, offset: usize)
     write::then_number(out, numbered, offset)
 }
 
-// The answer of a call that changes nothing remembered. A word that a group of calls does not know leaves it stuck, with
-// nothing written; so does a request that is not of the form.
+// The answer of a call that remembers nothing. A word that a group of calls does not know leaves it stuck, with nothing
+// written; so does a request that is not of the form.
+fn answer_alone(word: &[u8], s: &[u8], at: usize, out: &mut [u8], filled: usize) -> Told {
+    let on_texts = texts::answer(word, s, at, out, filled);
+    if on_texts.next != read::STUCK {
+        return on_texts;
+    }
+    let on_declarations = declarations::answer(word, s, at, out, filled);
+    if on_declarations.next != read::STUCK {
+        return on_declarations;
+    }
+    let on_patterns = patterns::answer(word, s, at, out, filled);
+    if on_patterns.next != read::STUCK {
+        return on_patterns;
+    }
+    properties::answer(word, s, at, out, filled)
+}
+
+// The answer of a call that changes nothing remembered.
 fn answer_only(
     word: &[u8],
     s: &[u8],
@@ -78,22 +96,14 @@ fn answer_only(
     kept: &[u32],
     reports: &[u32],
 ) -> Told {
-    let on_texts = texts::answer(word, s, at, out, filled);
-    if on_texts.next != read::STUCK {
-        return on_texts;
-    }
-    let on_declarations = declarations::answer(word, s, at, out, filled);
-    if on_declarations.next != read::STUCK {
-        return on_declarations;
-    }
-    let on_properties = properties::answer(word, s, at, out, filled);
-    if on_properties.next != read::STUCK {
-        return on_properties;
+    let alone = answer_alone(word, s, at, out, filled);
+    if alone.next != read::STUCK {
+        return alone;
     }
     tables::answer(word, s, at, out, filled, m, seen, kept, reports)
 }
 
-// The answer of a request that sets what is remembered: `ok`.
+// The answer of a request that sets what is remembered: `ok`, or its refusal.
 fn answer_set(
     word: &[u8],
     s: &[u8],
@@ -112,6 +122,13 @@ fn answer_set(
         return Step {
             next: read::STUCK,
             filled,
+            memory,
+        };
+    }
+    if set.refusal != refusals::TAKEN {
+        return Step {
+            next: set.next,
+            filled: refused(out, filled, set.refusal, set.offset),
             memory,
         };
     }

@@ -16,10 +16,22 @@ pub struct Memory {
     pub kept_count: usize,
 }
 
-// What is remembered after a request, and the place after it.
+// What is remembered after a request, the place after it, and its refusal with its offset.
 pub struct Remembered {
     pub next: usize,
     pub memory: Memory,
+    pub refusal: u8,
+    pub offset: usize,
+}
+
+// What is remembered after a request that is not refused.
+fn in_mind(next: usize, memory: Memory) -> Remembered {
+    Remembered {
+        next,
+        memory,
+        refusal: refusals::TAKEN,
+        offset: 0,
+    }
 }
 
 // What is remembered before the first request.
@@ -49,10 +61,7 @@ fn set_property(s: &[u8], at: usize, m: Memory) -> Remembered {
     let p = read.property;
     let mut memory = m;
     memory.property = p;
-    Remembered {
-        next: read::line_end(s, read.next),
-        memory,
-    }
+    in_mind(read::line_end(s, read.next), memory)
 }
 
 // Puts bytes at the start of others; what there is no room for is left out.
@@ -72,10 +81,36 @@ fn set_declared(s: &[u8], at: usize, m: Memory, declared: &mut [u8]) -> Remember
     copy(&s[start..end], declared);
     let mut memory = m;
     memory.declared = end - start;
-    Remembered {
-        next: read::line_end(s, text.next),
-        memory,
+    in_mind(read::line_end(s, text.next), memory)
+}
+
+// The first bytes of a text, so many of them.
+fn first(text: &[u8], count: usize) -> &[u8] {
+    if text.len() < count {
+        return &text[0..0];
     }
+    &text[0..count]
+}
+
+// `pattern` bytes
+fn set_by_pattern(s: &[u8], at: usize, m: Memory, declared: &[u8]) -> Remembered {
+    let pattern = read::bytes(s, at);
+    let next = read::line_end(s, pattern.next);
+    let start = pattern.start;
+    let end = pattern.end;
+    let t = translate::translate(first(declared, m.declared), &s[start..end]);
+    if t.refusal != refusals::TAKEN {
+        return Remembered {
+            next,
+            memory: m,
+            refusal: t.refusal,
+            offset: t.at,
+        };
+    }
+    let p = t.property;
+    let mut memory = m;
+    memory.property = p;
+    in_mind(next, memory)
 }
 
 // `seen` COUNT list
@@ -85,10 +120,7 @@ fn set_seen(s: &[u8], at: usize, m: Memory, seen: &mut [u32]) -> Remembered {
     let mut memory = m;
     memory.seen = list.count;
     memory.seen_count = count.value;
-    Remembered {
-        next: read::line_end(s, list.next),
-        memory,
-    }
+    in_mind(read::line_end(s, list.next), memory)
 }
 
 // `kept` COUNT list
@@ -98,10 +130,7 @@ fn set_kept(s: &[u8], at: usize, m: Memory, kept: &mut [u32]) -> Remembered {
     let mut memory = m;
     memory.kept = list.count;
     memory.kept_count = count.value;
-    Remembered {
-        next: read::line_end(s, list.next),
-        memory,
-    }
+    in_mind(read::line_end(s, list.next), memory)
 }
 
 // `reports` list
@@ -109,10 +138,7 @@ fn set_reports(s: &[u8], at: usize, m: Memory, reports: &mut [u32]) -> Remembere
     let list = read::list(s, at, reports);
     let mut memory = m;
     memory.reports = list.count;
-    Remembered {
-        next: read::line_end(s, list.next),
-        memory,
-    }
+    in_mind(read::line_end(s, list.next), memory)
 }
 
 // A length and a value, after their spaces: that many numbers of a table, all of that value.
@@ -154,10 +180,7 @@ fn fill(
     memory.reports = of_reports.count;
     memory.seen_count = 0;
     memory.kept_count = 0;
-    Remembered {
-        next: read::line_end(s, of_reports.next),
-        memory,
-    }
+    in_mind(read::line_end(s, of_reports.next), memory)
 }
 
 // What is remembered after the request of a word, whose items begin at a place.
@@ -177,6 +200,9 @@ pub fn set(
     if rows::same(word, b"declare") {
         return set_declared(s, at, m, declared);
     }
+    if rows::same(word, b"pattern") {
+        return set_by_pattern(s, at, m, declared);
+    }
     if rows::same(word, b"seen") {
         return set_seen(s, at, m, seen);
     }
@@ -189,8 +215,5 @@ pub fn set(
     if rows::same(word, b"fill") {
         return fill(s, at, m, seen, kept, reports);
     }
-    Remembered {
-        next: read::STUCK,
-        memory: m,
-    }
+    in_mind(read::STUCK, m)
 }

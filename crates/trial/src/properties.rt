@@ -55,12 +55,20 @@ fn then_states(out: &mut [u8], filled: usize, set: u64) -> usize {
     write::list_end(out, run)
 }
 
+// The hopeful states of a table in range, as a list; of another, which has none, the empty one.
+pub fn then_hopeful(out: &mut [u8], filled: usize, p: Property) -> usize {
+    if property::in_range(p) {
+        let states = property::hopeful(p);
+        return then_states(out, filled, states);
+    }
+    then_states(out, filled, 0)
+}
+
 // `taken` and the hopeful states, or the refusal of a table.
 fn judged(out: &mut [u8], filled: usize, p: Property) -> usize {
     if property::in_range(p) {
-        let states = property::hopeful(p);
         let begun = write::word(out, filled, b"taken");
-        return then_states(out, begun, states);
+        return then_hopeful(out, begun, p);
     }
     refused(out, filled, refusals::BAD_PROPERTY, 0)
 }
