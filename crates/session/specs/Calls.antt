@@ -14,11 +14,15 @@ use Rattle.document.specs.Limits.{width, seenStride, keptStride}
 use Rattle.document.specs.Refusals.{Refusal, number, noRoomForSeen, noRoomForKept, noRoomForReports, Answer, taken, refused, refuseIf}
 use Rattle.document.specs.OneEvent.{Kept, see, keptAfter, reportsAfter}
 use Rattle.document.specs.Tables.{seenRows, keptRows, seenRoom, keptRoom, reportRoom, seenTable, keptTable}
-use Rattle.document.specs.Session.{Session, Happened, Outcome, seenOf, keptOf, sessionWith, leaves}
+use Rattle.document.specs.Property.{Property}
+use Rattle.document.specs.Session.{Session, Happened, Outcome, seenOf, keptOf, sessionWith, leaves, startLeaves, Found, held, hopeless}
+use Rattle.property.specs.Meaning.{Asks, Hopes}
 use Rattle.combos.specs.Rows.{SeenInOrder}
 use Rattle.session.specs.Steps.{isNew, stepOf, stateIn, outcomeBy}
 use Rattle.session.specs.Ready.{Steady}
 use Rattle.session.specs.declared.Answered.{Answered}
+use Rattle.session.specs.declared.Known.{Known}
+use Rattle.session.specs.declared.Looked.{Looked}
 use Rattle.session.specs.declared.Foreseen.{Foreseen}
 
 -- a report's numbers
@@ -105,3 +109,32 @@ pub record WrittenDown (next verdicts : List ℕ) (hopes asks e n m from : ℕ) 
   pub keptTo : kept′ ≡ keptTable (keptAfter width (stepOf next) e b (seenRows n seen) (stateIn hopes) (keptRows m kept)) kept
   pub reportsTo : reports′ ≡ writtenBy verdicts from (record { seenCount = n; keptCount = m; seen = seen; kept = kept }) reports
       (outcomeBy next hopes asks (seenRows n seen) (keptRows m kept) e b) .reports
+
+-- The face -------------------------------------------------------------------------------------------------------------
+
+-- what is worked out once of a property
+pub record KnownOf (p : Property) (k : Known) : Type 0 where
+  pub parameters : k .parameters ≡ p .parameters
+  pub states : k .states ≡ p .states
+  pub hopes : Hopes p (k .hopeful)
+  pub asks : Asks p (k .asked)
+
+-- start: what it says, and every lent number afterwards
+unfoldable pub started : List ℕ → List ℕ → Answer Session → Answered
+started seen kept a = record {
+  refusal = refusalOf a;
+  seen = startLeaves seen kept a .seenCount;
+  kept = startLeaves seen kept a .keptCount;
+  reported = 0;
+}
+
+pub record StartLeaves (a : Answer Session) (seen kept : List ℕ) (r : Answered) (seen′ kept′ : List ℕ) : Type 0 where
+  pub says : r ≡ started seen kept a
+  pub seenLeft : seen′ ≡ startLeaves seen kept a .seen
+  pub keptLeft : kept′ ≡ startLeaves seen kept a .kept
+
+-- lookup: the kept state and its verdict; hopeless, and a refusal, have neither
+unfoldable pub lookedUp : Answer Found → Looked
+lookedUp (taken (held s v)) = record { refusal = 0; held = true; state = s; verdict = v }
+lookedUp (taken hopeless) = record { refusal = 0; held = false; state = 0; verdict = 0 }
+lookedUp (refused r at) = record { refusal = number r; held = false; state = 0; verdict = 0 }

@@ -13,3 +13,5 @@ pub mod GrowLaws
 pub mod ReportLaws
 pub mod Calls
 pub mod WriteLaws
+pub mod SteadyLaws
+pub mod FaceLaws

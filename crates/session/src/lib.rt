@@ -1,4 +1,9 @@
-// A session over lent tables (document 01, "One event").
+// A session over lent tables (document 01, "One event"): start, one event, lookup. Above `judge`, `property` and `combos`.
+// The face: `start`, `event`, `lookup`, which take every input, judge it in the order of the refusals, and on a refusal leave
+// every lent number as it was. The interior: `work_out`, `foresee`, `write_down`, `step`, for a run that has judged its inputs.
+//
+//     start(p, &mut seen, &mut kept) answers the counts of a fresh session, 0 seen rows and 0 or 1 kept rows;
+//     event(p, &mut seen, n, &mut kept, m, &mut reports, e, values) answers the counts after the event, and its reports.
 ghost use mathlib.Core.Path.{_≡_};
 ghost use mathlib.Core.Bool.{true, false, not, _&&_};
 ghost use mathlib.Core.List.{List};
@@ -16,22 +21,36 @@ ghost use Rattle.session.specs.EventLaws.{one};
 ghost use Rattle.session.specs.Ready.{Onward, Binds, Joint, Keeps, Ready, RowReady, Steady};
 ghost use Rattle.session.specs.Foreseen.{tallyOf, roomRefusal, foreseenOf};
 ghost use Rattle.session.specs.Writing.{SettleReady, SettledRow, Siftable, Sifted, GrowReady, GrownRow, Growable, Grown, ReportReady, ReportedRow, Reportable, Reported};
-ghost use Rattle.session.specs.Calls.{stepBy, Leaves, Keepable, Seeable, Writable, Tellable, Tells, WrittenDown};
+ghost use Rattle.session.specs.Calls.{stepBy, Leaves, Keepable, Seeable, Writable, Tellable, Tells, WrittenDown, KnownOf, StartLeaves, lookedUp};
 ghost use Rattle.judge.specs.Sound.{sessionOf};
+ghost use Rattle.document.specs.Property.{inRange};
+ghost use Rattle.document.specs.Session.{start, event, lookup};
+ghost use Rattle.property.specs.Meaning.{meaning};
 ghost use Rattle.session.specs.Rows.{weightOf, movedWeight};
 use combos::Combination;
 use combos::KEPT_STRIDE;
 use combos::SEEN_STRIDE;
 use combos::WIDTH;
+use property::Property;
 
 const MOST_EVENTS: usize = 16;
 
 // Numbers of refusal.
+pub const BAD_PROPERTY: u8 = 11;
+
+pub const BAD_SESSION: u8 = 12;
+
+pub const NO_SUCH_EVENT: u8 = 13;
+
+pub const WRONG_VALUES: u8 = 14;
+
 pub const NO_ROOM_FOR_SEEN: u8 = 15;
 
 pub const NO_ROOM_FOR_KEPT: u8 = 16;
 
 pub const NO_ROOM_FOR_REPORTS: u8 = 17;
+
+pub const BAD_LOOKUP: u8 = 23;
 
 fn wide(x: u32) -> usize
     ensures { λ r. ⌜ r ≡ x ⌝ }
@@ -100,6 +119,14 @@ pub struct Answered {
     pub seen: usize,
     pub kept: usize,
     pub reported: usize,
+}
+
+// What lookup answers: the number of refusal, or 0; whether the combination's join is kept; and its state and verdict.
+pub struct Looked {
+    pub refusal: u8,
+    pub held: bool,
+    pub state: u32,
+    pub verdict: u8,
 }
 
 // The state that an event leads to.
@@ -636,4 +663,69 @@ pub fn step(
         kept: o.kept,
         reported: o.reported,
     }
+}
+
+// The face --------------------------------------------------------------------------------------------------------------
+
+fn set_bits(x: u8) -> u64
+    ensures { λ r. ⌜ r ≡ x ⌝ }
+{
+    x as u64
+}
+
+// What is worked out once of a property that is taken.
+pub fn work_out(p: Property) -> Known
+    requires { ⌜ inRange (meaning p) ≡ true ⌝ }
+    ensures { λ r. ⌜ KnownOf (meaning p) r ⌝ }
+{
+    Known {
+        parameters: p.parameters,
+        states: p.states,
+        hopeful: property::hopeful(p),
+        asked: property::asked_states(p),
+    }
+}
+
+// A refusal: "the session counts as given", and no report.
+fn refused(refusal: u8, n: usize, m: usize) -> Answered
+    ensures { λ r. ⌜ r ≡ record { refusal = refusal; seen = n; kept = m; reported = 0 } ⌝ }
+{
+    Answered {
+        refusal,
+        seen: n,
+        kept: m,
+        reported: 0,
+    }
+}
+
+// One event with its values: refused 11, 12, 13, 14, then 15 to 17.
+pub fn event(
+    p: Property,
+    seen: &mut [u32],
+    n: usize,
+    kept: &mut [u32],
+    m: usize,
+    reports: &mut [u32],
+    e: usize,
+    values: Combination,
+) -> Answered
+    ensures { λ r. ⌜ Leaves (event (meaning p) (sessionOf n m (now (seen .entry)) (now (kept .entry))) (now (reports .entry)) e values) (sessionOf n m (now (seen .entry)) (now (kept .entry))) (now (reports .entry)) r (now (seen .exit)) (now (kept .exit)) (now (reports .exit)) ⌝ }
+{
+    if !property::in_range(p) {
+        return refused(BAD_PROPERTY, n, m);
+    }
+    let k = work_out(p);
+    if !judge::sound(k.parameters, k.states, k.hopeful, seen, n, kept, m) {
+        return refused(BAD_SESSION, n, m);
+    }
+    if p.events <= e {
+        return refused(NO_SUCH_EVENT, n, m);
+    }
+    let sets = p.sets;
+    if !combos::binds_exactly(set_bits(sets[e]), values) {
+        return refused(WRONG_VALUES, n, m);
+    }
+    let next = p.next;
+    let verdicts = p.verdicts;
+    step(&next, &verdicts, k, seen, n, kept, m, reports, 0, e, values)
 }
