@@ -16,7 +16,7 @@ use Rattle.document.specs.Property.{Property, inRange, setOf, hopeful}
 use Rattle.document.specs.Session.{Session, Happened, seenOf, keptOf, sound, event, leaves, stepFrom}
 use Rattle.judge.specs.Sound.{soundBy, soundBy-sound, sessionOf}
 use Rattle.property.specs.Meaning.{Asks, Hopes}
-use Rattle.property.specs.RangeLaws.{Ranges, in-range-says}
+use Rattle.words.specs.Range.{in-range-range}
 use Rattle.session.specs.Ready.{Steady}
 use Rattle.session.specs.Calls.{stepBy, answered, Leaves, KnownOf}
 use Rattle.session.specs.SteadyLaws.{kept-range, sound-steady, step-same}
@@ -35,10 +35,10 @@ module _ (p : Property) (f : Bool) (qf : f ≡ inRange p) (zf : not f ≡ false)
   taken-property = sym qf ∙ not-false f zf
 
   pub known-states : (k : Known) → KnownOf p k → k .states ≤ mostStates
-  known-states k u = rw (u .states) (in-range-says p taken-property .states)
+  known-states k u = rw (u .states) (in-range-range p taken-property .fewStates)
 
   pub event-index : (e : ℕ) → e < p .events → e < mostEvents
-  event-index e l = let x = in-range-says p taken-property .events in omega arith
+  event-index e l = let x = in-range-range p taken-property .fewEvents in omega arith
 
   pub event-steady : (n m : ℕ) (seen kept : List ℕ) (k : Known) → KnownOf p k → (g : Bool) → g ≡ soundBy (k .parameters) (k .states) (holds (k .hopeful)) (sessionOf n m seen kept)
       → not g ≡ false → (e : ℕ) → e < p .events → Steady (p .next) (k .states) e n m seen kept

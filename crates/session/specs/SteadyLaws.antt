@@ -26,7 +26,7 @@ use Rattle.combos.specs.RowsLaws.{tabulate-in}
 use Rattle.judge.specs.Sound.{rightlyKeptBy, soundBy, soundBy-sound, sessionOf}
 use Rattle.judge.specs.SoundLaws.{Clauses, clauses-of, seen-room-inside, kept-room-inside}
 use Rattle.property.specs.Meaning.{Asks, Hopes}
-use Rattle.property.specs.RangeLaws.{Ranges, in-range-says}
+use Rattle.words.specs.Range.{in-range-range}
 use Rattle.session.specs.Steps.{stepOf, stateIn, outcomeBy}
 use Rattle.session.specs.Tables.{rowAt, keptFrom}
 use Rattle.session.specs.TablesLaws.{kept-rows}
@@ -79,10 +79,10 @@ module _ (p : Property) (r : inRange p ≡ true) (n m : ℕ) (seen kept : List �
   pub sound-steady : (e : ℕ) → e < p .events → Steady (p .next) (p .states) e n m seen kept
   unfolding seenOf keptOf keptCombinations stepOf nextState
   sound-steady e h =
-      let g = in-range-says p r in
+      let g = in-range-range p r in
       let in₀ : (k : Kept) → In k (keptFrom m kept 0) → In k (keptRows m kept) = λ k i. rw (kept-rows m kept) at i in
       record {
-        moves = record { few = g .states; event = let x = g .events in omega arith; onward = λ x y. g .next x e y h };
+        moves = record { few = g .fewStates; event = let x = g .fewEvents in omega arith; onward = λ x y. g .next x e y h };
         table = record { inside = let x = c₀ .seenFits in let y = seen-room-inside seen in omega arith; order = c₀ .seenOrder };
         rows = record {
           inside = let x = c₀ .keptFits in let y = kept-room-inside kept in omega arith;
@@ -114,7 +114,7 @@ module _ (p : Property) (r : inRange p ≡ true) (hopes asks : ℕ) (h : Hopes p
   moved-range k i =
       let m = in-map (movedFrom width (nextState p) e b (seenOf s)) (keepIf (moves width (nextState p) e b (seenOf s)) (keptOf s)) k .0 i in
       let f = in-keepIf (moves width (nextState p) e b (seenOf s)) (keptOf s) (m .of) .0 (m .member) in
-      rw (m .is) (in-range-says p r .next (m .of .state) e (range (m .of) (f .0)) d)
+      rw (m .is) (in-range-range p r .next (m .of .state) e (range (m .of) (f .0)) d)
 
   reported-same : keepIf (stateIn asks) (moved width (nextState p) e b (seenOf s) (keptOf s)) ≡ keepIf (reported p) (moved width (nextState p) e b (seenOf s) (keptOf s))
   unfolding stateIn reported
