@@ -9,8 +9,8 @@ use mathlib.Core.List.{List, [], _∷_, _++_}
 use mathlib.Core.List as list
 use lib.Dec.{ltb}
 use lib.ListN.{length, getD, take, drop}
-use Rattle.document.specs.Lists.{joinedUp}
-use Rattle.document.specs.Limits.{width, seenStride, keptStride}
+use Rattle.document.specs.Lists.{In, equal, joinedUp}
+use Rattle.document.specs.Limits.{width, seenStride, keptStride, mostStates}
 use Rattle.document.specs.Refusals.{Refusal, number, noRoomForSeen, noRoomForKept, noRoomForReports, Answer, taken, refused, refuseIf}
 use Rattle.document.specs.OneEvent.{Kept, see, keptAfter, reportsAfter}
 use Rattle.document.specs.Tables.{seenRows, keptRows, seenRoom, keptRoom, reportRoom, seenTable, keptTable}
@@ -19,6 +19,8 @@ use Rattle.document.specs.Session.{Session, Happened, Outcome, seenOf, keptOf, 
 use Rattle.property.specs.Meaning.{Asks, Hopes}
 use Rattle.combos.specs.Rows.{SeenInOrder}
 use Rattle.session.specs.Steps.{isNew, stepOf, stateIn, outcomeBy}
+use Rattle.slices.specs.OrderLaws.{Ascends, combinations}
+use Rattle.session.specs.Tables.{keptFrom}
 use Rattle.session.specs.Ready.{Steady}
 use Rattle.session.specs.declared.Answered.{Answered}
 use Rattle.session.specs.declared.Known.{Known}
@@ -138,3 +140,17 @@ unfoldable pub lookedUp : Answer Found → Looked
 lookedUp (taken (held s v)) = record { refusal = 0; held = true; state = s; verdict = v }
 lookedUp (taken hopeless) = record { refusal = 0; held = false; state = 0; verdict = 0 }
 lookedUp (refused r at) = record { refusal = number r; held = false; state = 0; verdict = 0 }
+
+-- the kept rows, found by a search
+pub record Findable (m : ℕ) (kept : List ℕ) : Type 0 where
+  pub inside : m * keptStride ≤ length kept
+  pub order : Ascends (combinations (keptFrom m kept 0))
+  pub within : (k : Kept) → In k (keptFrom m kept 0) → k .state < mostStates
+
+unfoldable pub foundBy : List ℕ → List ℕ → List Kept → Looked
+foundBy verdicts c [] = record { refusal = 0; held = false; state = 0; verdict = 0 }
+foundBy verdicts c (k ∷ l) =
+    elim (equal (k .combination) c) [
+      | true ↦ record { refusal = 0; held = true; state = k .state; verdict = getD verdicts (k .state) 0 }
+      | false ↦ foundBy verdicts c l
+    ]

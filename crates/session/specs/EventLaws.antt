@@ -417,7 +417,7 @@ module _ (step : ℕ → ℕ → ℕ) (e : ℕ) (b : List ℕ) (seen : List (Lis
     unfolding moved
     moved-in l k i t = map-in to (keepIf may l) k (in-keepIf may l k .1 (i, t))
 
-    keptAfter-ascends : (l : List Kept) → Ascends (combinations l) → Ascends (combinations (keptAfter width step e b seen keeps l))
+    pub keptAfter-ascends : (l : List Kept) → Ascends (combinations l) → Ascends (combinations (keptAfter width step e b seen keeps l))
     unfolding keptAfter
     keptAfter-ascends l a =
         let comb : Kept → List ℕ = λ k. k .combination in

@@ -15,3 +15,5 @@ pub mod Calls
 pub mod WriteLaws
 pub mod SteadyLaws
 pub mod FaceLaws
+pub mod LookupLaws
+pub mod GoesOnLaws

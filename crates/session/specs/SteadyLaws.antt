@@ -55,7 +55,7 @@ zero-between from to t l e k g h =
 
 -- The check gives what the step needs ----------------------------------------------------------------------------------
 
-kept-width : (m : ℕ) (kept : List ℕ) (k : Kept) → In k (keptRows m kept) → length (k .combination) ≡ width
+pub kept-width : (m : ℕ) (kept : List ℕ) (k : Kept) → In k (keptRows m kept) → length (k .combination) ≡ width
 unfolding keptRows
 kept-width m kept k i =
     let r = tabulate-in m (λ j. rowAt kept (j * keptStride)) k i in
@@ -65,13 +65,19 @@ module _ (p : Property) (r : inRange p ≡ true) (n m : ℕ) (seen kept : List �
   c₀ : Clauses (p .parameters) (p .states) (hopeful p) (sessionOf n m seen kept)
   c₀ = clauses-of (p .parameters) (p .states) (hopeful p) (sessionOf n m seen kept) (soundBy-sound p (sessionOf n m seen kept) ∙ s)
 
-  rightly : (k : Kept) → In k (keptRows m kept) → (k .state < p .states) × (joinSeen width (k .combination) (seenRows n seen) ≡ k .combination)
+  pub rightly : (k : Kept) → In k (keptRows m kept) → (k .state < p .states) × (joinSeen width (k .combination) (seenRows n seen) ≡ k .combination)
   unfolding rightlyKeptBy keptOf seenOf
   rightly k i =
       let e = every-of (rightlyKeptBy (p .states) (hopeful p) (seenRows n seen)) (keptRows m kept) (c₀ .rightly) k i in
       let f = and-of (ltb (k .state) (p .states) && hopeful p (k .state)) (equal (joinSeen width (k .combination) (seenRows n seen)) (k .combination)) (so e) in
       let g = and-of (ltb (k .state) (p .states)) (hopeful p (k .state)) (f .0) in
       (ltb→lt (k .state) (p .states) (g .0), equal-of (joinSeen width (k .combination) (seenRows n seen)) (k .combination) (f .1))
+
+  pub rightly-state : (k : Kept) → In k (keptRows m kept) → T (ltb (k .state) (p .states) && hopeful p (k .state))
+  unfolding rightlyKeptBy keptOf seenOf
+  rightly-state k i =
+      let e = every-of (rightlyKeptBy (p .states) (hopeful p) (seenRows n seen)) (keptRows m kept) (c₀ .rightly) k i in
+      and-of (ltb (k .state) (p .states) && hopeful p (k .state)) (equal (joinSeen width (k .combination) (seenRows n seen)) (k .combination)) (so e) .0
 
   pub kept-range : (k : Kept) → In k (keptRows m kept) → k .state < p .states
   kept-range k i = rightly k i .0

@@ -89,7 +89,7 @@ kept-more (suc n) t at =
     rw (z, suc-add) (ap (λ (l : List Kept). rowAt t at ∷ l) (kept-more n t (at + keptStride)))
 
 -- the rows of the table as document 01 lists them
-kept-tabulated : (n : ℕ) (t : List ℕ) (at : ℕ) → keptFrom n t at ≡ tabulate n (λ i. rowAt t (at + i * keptStride))
+pub kept-tabulated : (n : ℕ) (t : List ℕ) (at : ℕ) → keptFrom n t at ≡ tabulate n (λ i. rowAt t (at + i * keptStride))
 unfolding keptFrom tabulate
 kept-tabulated zero t at = refl
 kept-tabulated (suc n) t at =
@@ -117,7 +117,7 @@ seen-rows n t = seen-tabulated n t 0 ∙ tabulate-same n (λ i. numbersAt width 
 pub row-in : (n : ℕ) (t : List ℕ) (at i : ℕ) → i < n → In (rowAt t (at + i * keptStride)) (keptFrom n t at)
 row-in n t at i h = rw (kept-tabulated n t at) (in-tabulate n (λ k. rowAt t (at + k * keptStride)) i h)
 
-combinations-tabulated : (n : ℕ) (f : ℕ → Kept) → combinations (tabulate n f) ≡ tabulate n (λ i. f i .combination)
+pub combinations-tabulated : (n : ℕ) (f : ℕ → Kept) → combinations (tabulate n f) ≡ tabulate n (λ i. f i .combination)
 unfolding tabulate
 combinations-tabulated zero f = refl
 combinations-tabulated (suc n) f = rw (combinations-tabulated n (λ k. f (suc k)))

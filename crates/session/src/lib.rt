@@ -21,7 +21,7 @@ ghost use Rattle.session.specs.EventLaws.{one};
 ghost use Rattle.session.specs.Ready.{Onward, Binds, Joint, Keeps, Ready, RowReady, Steady};
 ghost use Rattle.session.specs.Foreseen.{tallyOf, roomRefusal, foreseenOf};
 ghost use Rattle.session.specs.Writing.{SettleReady, SettledRow, Siftable, Sifted, GrowReady, GrownRow, Growable, Grown, ReportReady, ReportedRow, Reportable, Reported};
-ghost use Rattle.session.specs.Calls.{stepBy, Leaves, Keepable, Seeable, Writable, Tellable, Tells, WrittenDown, KnownOf, StartLeaves, lookedUp};
+ghost use Rattle.session.specs.Calls.{stepBy, Leaves, Keepable, Seeable, Writable, Tellable, Tells, WrittenDown, KnownOf, StartLeaves, lookedUp, Findable, foundBy};
 ghost use Rattle.judge.specs.Sound.{sessionOf};
 ghost use Rattle.document.specs.Property.{inRange};
 ghost use Rattle.document.specs.Session.{start, event, lookup};
@@ -728,4 +728,75 @@ pub fn event(
     let next = p.next;
     let verdicts = p.verdicts;
     step(&next, &verdicts, k, seen, n, kept, m, reports, 0, e, values)
+}
+
+// A fresh session: "Start clears both rooms and, if state 0 is hopeful, keeps the empty combination in it", whose row is
+// zeros too. Refused 11, then 16 where there is no room for that row.
+pub fn start(p: Property, seen: &mut [u32], kept: &mut [u32]) -> Answered
+    ensures { λ r. ⌜ StartLeaves (start (meaning p) (now (seen .entry)) (now (kept .entry))) (now (seen .entry)) (now (kept .entry)) r (now (seen .exit)) (now (kept .exit)) ⌝ }
+{
+    if !property::in_range(p) {
+        return refused(BAD_PROPERTY, 0, 0);
+    }
+    let first = one(bits::has(property::hopeful(p), 0));
+    let room = judge::kept_room(kept);
+    if room < first {
+        return refused(NO_ROOM_FOR_KEPT, 0, 0);
+    }
+    combos::clear(seen, 0, judge::seen_room(seen) * SEEN_STRIDE);
+    combos::clear(kept, 0, room * KEPT_STRIDE);
+    refused(0, 0, first)
+}
+
+// The answer where the combination's join is not kept, and where the call is refused.
+fn nothing_held(refusal: u8) -> Looked
+    ensures { λ r. ⌜ r ≡ record { refusal = refusal; held = false; state = 0; verdict = 0 } ⌝ }
+{
+    Looked {
+        refusal,
+        held: false,
+        state: 0,
+        verdict: 0,
+    }
+}
+
+// The kept row of a combination, or hopeless.
+fn find_kept(verdicts: &[u8; 64], kept: &[u32], m: usize, c: Combination) -> Looked
+    requires { ⌜ Findable m (now kept) ⌝ }
+    ensures { λ r. ⌜ r ≡ foundBy (now (verdicts .entry)) c (keptRows m (now (kept .entry))) ⌝ }
+{
+    let at = combos::place(kept, 0, KEPT_STRIDE, m, c);
+    if m <= at {
+        return nothing_held(0);
+    }
+    let place = at * KEPT_STRIDE;
+    if !combos::equal(combos::row_at(kept, place), c) {
+        return nothing_held(0);
+    }
+    let state = kept[place + WIDTH];
+    let s = wide(state);
+    Looked {
+        refusal: 0,
+        held: true,
+        state,
+        verdict: verdicts[s],
+    }
+}
+
+// The kept state of the join of the seen bindings that a combination includes, and its verdict; refused 11, 12, 23.
+pub fn lookup(p: Property, seen: &[u32], n: usize, kept: &[u32], m: usize, c: Combination) -> Looked
+    ensures { λ r. ⌜ r ≡ lookedUp (lookup (meaning p) (sessionOf n m (now (seen .entry)) (now (kept .entry))) c) ⌝ }
+{
+    if !property::in_range(p) {
+        return nothing_held(BAD_PROPERTY);
+    }
+    let k = work_out(p);
+    if !judge::sound(k.parameters, k.states, k.hopeful, seen, n, kept, m) {
+        return nothing_held(BAD_SESSION);
+    }
+    if !combos::zero_past(p.parameters, c) {
+        return nothing_held(BAD_LOOKUP);
+    }
+    let verdicts = p.verdicts;
+    find_kept(&verdicts, kept, m, judge::join_seen(c, seen, n))
 }
