@@ -31,7 +31,7 @@ use Rattle.slices.specs.HoldsLaws.{binding-zeroPast}
 use Rattle.judge.specs.Sound.{rightlyKeptBy, soundBy, soundBy-sound, sessionOf}
 use Rattle.judge.specs.SoundLaws.{Clauses, clauses-of, of-clauses}
 use Rattle.judge.specs.JoinLaws.{seen-width}
-use Rattle.property.specs.RangeLaws.{in-range-says}
+use Rattle.words.specs.Range.{in-range-range}
 use Rattle.session.specs.Steps.{isNew}
 use Rattle.session.specs.EventLaws.{Right, moves-of, in-moved, keptAfter-ascends}
 use Rattle.session.specs.ForeseenLaws.{see-new, see-old}
@@ -165,7 +165,7 @@ module _ (p : Property) (r : inRange p ≡ true) (n m : ℕ) (seen kept : List �
             let inc : includes c b ≡ true = true-of (includes c b) (join-includes-left b (x .combination) (o .0)) in
             let oc : length c ≡ width = length-join width b (x .combination) ob (kept-width m kept x (g .1)) in
             let q : joinSeen width c seen₁ ≡ c = see-join-in b S ob (seen-width n seen) c oc inc ∙ ap (join b) (o .1) in
-            let range : k .state < p .states = subst (λ (y : Kept). y .state < p .states) (sym (g .3)) (in-range-says p r .next (x .state) e (rightly p r n m seen kept s x (g .1) .0) d) in
+            let range : k .state < p .states = subst (λ (y : Kept). y .state < p .states) (sym (g .3)) (in-range-range p r .next (x .state) e (rightly p r n m seen kept s x (g .1) .0) d) in
             of-and (ltb (k .state) (p .states) && hopeful p (k .state)) (equal (joinSeen width (k .combination) seen₁) (k .combination))
             (of-and (ltb (k .state) (p .states)) (hopeful p (k .state)) (lt→ltb (k .state) (p .states) range) (g .4))
             (subst (λ (y : Kept). T (equal (joinSeen width (y .combination) seen₁) (y .combination))) (sym (g .3)) (of-equal (joinSeen width c seen₁) c q))

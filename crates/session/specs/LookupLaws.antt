@@ -28,7 +28,7 @@ use Rattle.combos.specs.RowsLaws.{ascends-at, tabulate-in}
 use Rattle.combos.specs.Writes.{ZeroIn}
 use Rattle.judge.specs.Sound.{soundBy, sessionOf}
 use Rattle.property.specs.Meaning.{Hopes}
-use Rattle.property.specs.RangeLaws.{in-range-says}
+use Rattle.words.specs.Range.{in-range-range}
 use Rattle.session.specs.Tables.{rowAt, keptFrom, seenFrom}
 use Rattle.session.specs.TablesLaws.{row-is, row-in, kept-tabulated, combinations-tabulated, kept-rows, seen-rows, kept-table, seen-table}
 use Rattle.session.specs.EventLaws.{one}
@@ -200,7 +200,7 @@ module _ (p : Property) (n m : ℕ) (seen kept : List ℕ) (f : Bool) (qf : f �
   steady : Steady (p .next) (p .states) 0 n m seen kept
   steady =
       let r = taken-property p f qf zf in
-      sound-steady p r n m seen kept (sym (known-sound p k (sessionOf n m seen kept) u) ∙ sym qg ∙ not-false g zg) 0 (in-range-says p r .some-event)
+      sound-steady p r n m seen kept (sym (known-sound p k (sessionOf n m seen kept) u) ∙ sym qg ∙ not-false g zg) 0 (in-range-range p r .someEvent)
 
   pub lookup-seen : SeenInOrder n seen
   lookup-seen = steady .table
