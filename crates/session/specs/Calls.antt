@@ -2,43 +2,27 @@
 -- The step is stated over what a run works out once (transitions, verdicts, and the sets of states that are hopeful and whose
 -- verdict is asked for); with those of a property it is the document's `stepFrom`.
 -- Assumes nothing.
-use Prim.Native.Nat.{ℕ, _+_, _*_, _<_, _≤_}
+use Prim.Native.Nat.{ℕ, _*_, _<_, _≤_}
 use mathlib.Core.Path.{_≡_}
-use mathlib.Core.Bool.{Bool, true, false, not}
-use mathlib.Core.List.{List, [], _∷_, _++_}
-use mathlib.Core.List as list
+use mathlib.Core.Bool.{true, false}
+use mathlib.Core.List.{List, [], _∷_}
 use lib.Dec.{ltb}
-use lib.ListN.{length, getD, take, drop}
-use Rattle.document.specs.Lists.{In, equal, joinedUp}
-use Rattle.document.specs.Limits.{width, seenStride, keptStride, mostStates}
-use Rattle.document.specs.Refusals.{Refusal, number, noRoomForSeen, noRoomForKept, noRoomForReports, Answer, taken, refused, refuseIf}
-use Rattle.document.specs.OneEvent.{Kept, see, keptAfter, reportsAfter}
-use Rattle.document.specs.Tables.{seenRows, keptRows, seenRoom, keptRoom, reportRoom, seenTable, keptTable}
+use lib.ListN.{length, getD, drop}
+use Rattle.document.specs.Lists.{In, equal}
+use Rattle.document.specs.Limits.{keptStride, mostStates}
+use Rattle.document.specs.Refusals.{number, noRoomForSeen, noRoomForKept, noRoomForReports, Answer, taken, refused, refuseIf}
+use Rattle.document.specs.OneEvent.{Kept}
+use Rattle.document.specs.Tables.{seenRoom, keptRoom, reportRoom}
 use Rattle.document.specs.Property.{Property}
-use Rattle.document.specs.Session.{Session, Happened, Outcome, seenOf, keptOf, sessionWith, leaves, startLeaves, Found, held, hopeless}
-use Rattle.property.specs.Meaning.{Asks, Hopes}
-use Rattle.combos.specs.Rows.{SeenInOrder}
-use Rattle.session.specs.Steps.{isNew, stepOf, stateIn, outcomeBy}
+use Rattle.document.specs.Session.{Session, Happened, Outcome, seenOf, keptOf, leaves, startLeaves, Found, held, hopeless}
 use Rattle.slices.specs.OrderLaws.{Ascends, combinations}
-use Rattle.session.specs.Tables.{keptFrom}
-use Rattle.session.specs.Ready.{Steady}
+use Rattle.property.specs.Meaning.{Asks, Hopes}
+use Rattle.tables.specs.Tables.{keptFrom}
+use Rattle.moves.specs.Steps.{outcomeBy}
+use Rattle.moves.specs.declared.Known.{Known}
+use Rattle.writing.specs.Writing.{writtenBy}
 use Rattle.session.specs.declared.Answered.{Answered}
-use Rattle.session.specs.declared.Known.{Known}
 use Rattle.session.specs.declared.Looked.{Looked}
-use Rattle.session.specs.declared.Foreseen.{Foreseen}
-
--- a report's numbers
-unfoldable pub reportNumbersBy : List ℕ → Kept → List ℕ
-reportNumbersBy verdicts k = k .combination ++ (getD verdicts (k .state) 0 ∷ [])
-
-unfoldable pub writtenBy : List ℕ → ℕ → Session → List ℕ → Outcome → Happened
-writtenBy verdicts from s reports o =
-    let numbers = joinedUp (list.map (reportNumbersBy verdicts) (o .rows)) in
-    record {
-      session = sessionWith s (o .seen) (o .kept);
-      reports = take from reports ++ numbers ++ drop (from + length numbers) reports;
-      reported = length (o .rows);
-    }
 
 unfoldable pub withinRoomsBy : List ℕ → ℕ → Session → List ℕ → Outcome → Answer Happened
 withinRoomsBy verdicts from s reports o =
@@ -73,44 +57,6 @@ pub record Leaves (a : Answer Happened) (s : Session) (reports : List ℕ) (r : 
   pub seenLeft : seen′ ≡ leaves s reports a .session .seen
   pub keptLeft : kept′ ≡ leaves s reports a .session .kept
   pub reportsLeft : reports′ ≡ leaves s reports a .reports
-
--- Writing it down ------------------------------------------------------------------------------------------------------
-
-pub record Keepable (next : List ℕ) (states hopes e n m : ℕ) (b seen kept : List ℕ) (fresh : Bool) : Type 0 where
-  pub steady : Steady next states e n m seen kept
-  pub wide : length b ≡ width
-  pub new : fresh ≡ isNew b (seenRows n seen)
-  pub room : length (keptAfter width (stepOf next) e b (seenRows n seen) (stateIn hopes) (keptRows m kept)) ≤ keptRoom kept
-
-pub record Seeable (n : ℕ) (b seen : List ℕ) (fresh : Bool) : Type 0 where
-  pub table : SeenInOrder n seen
-  pub wide : length b ≡ width
-  pub new : fresh ≡ isNew b (seenRows n seen)
-  pub fits : n ≤ seenRoom seen
-  pub zero : (k : ℕ) → n * seenStride ≤ k → k < seenRoom seen * seenStride → getD seen k 0 ≡ 0
-  pub room : length (see width b (seenRows n seen)) ≤ seenRoom seen
-
--- there is room for an outcome
-pub record Writable (next : List ℕ) (states hopes asks e n m from : ℕ) (b seen kept reports : List ℕ) (fresh : Bool) : Type 0 where
-  pub keeps : Keepable next states hopes e n m b seen kept fresh
-  pub sees : length (see width b (seenRows n seen)) ≤ seenRoom seen
-  pub tells : length (reportsAfter width (stepOf next) e b (seenRows n seen) (stateIn asks) (keptRows m kept)) ≤ reportRoom (drop from reports)
-
--- an outcome that was foreseen, with room for it
-pub record Tellable (next : List ℕ) (states hopes asks e n m from : ℕ) (b seen kept reports : List ℕ) (o : Foreseen) : Type 0 where
-  pub writes : Writable next states hopes asks e n m from b seen kept reports (o .fresh)
-  pub tells : o .reported ≡ length (reportsAfter width (stepOf next) e b (seenRows n seen) (stateIn asks) (keptRows m kept))
-
-pub record Tells (next verdicts : List ℕ) (hopes asks e n m from : ℕ) (b seen kept reports reports′ : List ℕ) : Type 0 where
-  pub told : reports′ ≡ writtenBy verdicts from (record { seenCount = n; keptCount = m; seen = seen; kept = kept }) reports
-      (outcomeBy next hopes asks (seenRows n seen) (keptRows m kept) e b) .reports
-
--- and it is written down
-pub record WrittenDown (next verdicts : List ℕ) (hopes asks e n m from : ℕ) (b seen kept reports seen′ kept′ reports′ : List ℕ) : Type 0 where
-  pub seenTo : seen′ ≡ seenTable (see width b (seenRows n seen)) seen
-  pub keptTo : kept′ ≡ keptTable (keptAfter width (stepOf next) e b (seenRows n seen) (stateIn hopes) (keptRows m kept)) kept
-  pub reportsTo : reports′ ≡ writtenBy verdicts from (record { seenCount = n; keptCount = m; seen = seen; kept = kept }) reports
-      (outcomeBy next hopes asks (seenRows n seen) (keptRows m kept) e b) .reports
 
 -- The face -------------------------------------------------------------------------------------------------------------
 

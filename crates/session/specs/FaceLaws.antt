@@ -1,27 +1,25 @@
 -- The returns of the face calls.
 -- Assumes nothing.
-use Prim.Native.Nat.{ℕ, zero, suc, _+_, _-_, _*_, _<_, _≤_}
-use mathlib.Core.Path.{_≡_, refl, sym, ap, ap₂, subst, _∙_}
-use mathlib.Core.Bool.{Bool, true, false, not, cond, _&&_}
-use mathlib.Core.List.{List, [], _∷_, _++_}
+use Prim.Native.Nat.{ℕ, _<_, _≤_}
+use mathlib.Core.Path.{_≡_, refl, sym, ap, subst, _∙_}
+use mathlib.Core.Bool.{Bool, true, false, not}
+use mathlib.Core.List.{List}
 use native.Mathlib.Omega.{arith}
-use lib.Dec.{T, leb, ltb}
-use lib.ListN.{length, getD}
+use lib.ListN.{getD}
 use borrow.Author.Tests.{le-leb, lt-leb, not-true, not-false}
-use Rattle.document.specs.Limits.{width, seenStride, keptStride, mostEvents, mostStates}
+use Rattle.document.specs.Limits.{mostEvents, mostStates}
 use Rattle.document.specs.Positions.{holds}
-use Rattle.document.specs.Refusals.{number, badProperty, badSession, noSuchEvent, wrongValues, Answer, taken, refused, refuseIf}
+use Rattle.document.specs.Refusals.{Answer}
 use Rattle.document.specs.Combinations.{bindsExactly}
 use Rattle.document.specs.Property.{Property, inRange, setOf, hopeful}
-use Rattle.document.specs.Session.{Session, Happened, seenOf, keptOf, sound, event, leaves, stepFrom}
-use Rattle.judge.specs.Sound.{soundBy, soundBy-sound, sessionOf}
-use Rattle.property.specs.Meaning.{Asks, Hopes}
+use Rattle.document.specs.Session.{Session, Happened, keptOf, sound, event, leaves, stepFrom}
 use Rattle.words.specs.Range.{in-range-range}
-use Rattle.session.specs.Ready.{Steady}
+use Rattle.judge.specs.Sound.{soundBy, soundBy-sound, sessionOf}
+use Rattle.moves.specs.Ready.{Steady}
+use Rattle.moves.specs.declared.Known.{Known}
 use Rattle.session.specs.Calls.{stepBy, answered, Leaves, KnownOf}
 use Rattle.session.specs.SteadyLaws.{kept-range, sound-steady, step-same}
 use Rattle.session.specs.declared.Answered.{Answered}
-use Rattle.session.specs.declared.Known.{Known}
 
 -- the check over what is known is the document's
 pub known-sound : (p : Property) (k : Known) (s : Session) → KnownOf p k → soundBy (k .parameters) (k .states) (holds (k .hopeful)) s ≡ sound p s

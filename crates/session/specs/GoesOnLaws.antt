@@ -1,42 +1,41 @@
 -- A sound session stays sound after an accepted event: a run judges its session once and steps on.
 -- Assumes nothing.
-use Prim.Native.Nat.{ℕ, _+_, _*_, _<_, _≤_}
+use Prim.Native.Nat.{ℕ, _<_, _≤_}
 use mathlib.Core.Path.{_≡_, refl, sym, ap, subst, _∙_}
 use mathlib.Core.Logic.{_⊎_, inl, inr}
 use mathlib.Core.Bool.{Bool, true, false, not, _&&_, _||_}
 use mathlib.Core.List.{List, [], _∷_, _++_}
-use mathlib.Core.List as list
 use native.Mathlib.Omega.{arith}
 use lib.Dec.{T, ltb, lt→ltb}
 use lib.ListN.{length, drop}
 use borrow.Author.Tests.{ltb-false}
 use Rattle.document.specs.Lists.{In, every, keepIf, equal, among}
 use Rattle.document.specs.Limits.{width}
-use Rattle.document.specs.Refusals.{Answer, taken, refused, refuseIf, noRoomForSeen, noRoomForKept, noRoomForReports}
+use Rattle.document.specs.Refusals.{taken, refuseIf, noRoomForSeen, noRoomForKept, noRoomForReports}
 use Rattle.document.specs.Combinations.{emptyOf, includes, join, bindsExactly, zeroPast}
 use Rattle.document.specs.Histories.{Event}
 use Rattle.document.specs.Property.{Property, inRange, setOf, nextState, hopeful}
-use Rattle.document.specs.OneEvent.{Kept, joinSeen, inOrder, moves, movedFrom, moved, see, keptAfter, reportsAfter}
+use Rattle.document.specs.OneEvent.{Kept, joinSeen, moves, movedFrom, moved, see, keptAfter}
 use Rattle.document.specs.Tables.{seenRoom, keptRoom, reportRoom, seenRows, keptRows}
-use Rattle.document.specs.Session.{Session, Happened, Outcome, seenOf, keptOf, keptCombinations, ascending, sessionWith, sound, keeps, outcome, written, withinRooms, stepFrom}
+use Rattle.document.specs.Session.{Session, Happened, seenOf, keptOf, keptCombinations, ascending, sessionWith, sound, keeps, outcome, written, withinRooms, stepFrom}
 use Rattle.document.specs.Demands.{Proper}
+use Rattle.words.specs.Range.{in-range-range}
 use Rattle.slices.specs.TestsLaws.{so, not-so, true-of, either, not-of, of-not, of-and, or-of, of-every, equal-of, of-equal, among-of}
 use Rattle.slices.specs.ListsLaws.{in-append, in-more, in-more-old, in-more-new, in-keepIf, in-map}
 use Rattle.slices.specs.CombinationsLaws.{join-includes-left, length-join, zeroPast-join}
-use Rattle.slices.specs.OrderLaws.{Ascends, ascending-of, of-ascending, combinations, in-inOrder}
+use Rattle.slices.specs.OrderLaws.{ascending-of, of-ascending, combinations, in-inOrder, in-insertSeen}
 use Rattle.slices.specs.JoinSeenLaws.{OfWidth, joinSeen-same, joinSeen-more-in, joinSeen-more-out}
 use Rattle.slices.specs.SeenLaws.{see-ascends}
 use Rattle.slices.specs.SessionLaws.{Fits, seenOf-with, keptOf-with, seenRoom-with, keptRoom-with, seen-zero, kept-zero}
 use Rattle.slices.specs.HoldsLaws.{binding-zeroPast}
-use Rattle.judge.specs.Sound.{rightlyKeptBy, soundBy, soundBy-sound, sessionOf}
+use Rattle.judge.specs.Sound.{rightlyKeptBy, soundBy-sound, sessionOf}
 use Rattle.judge.specs.SoundLaws.{Clauses, clauses-of, of-clauses}
 use Rattle.judge.specs.JoinLaws.{seen-width}
-use Rattle.words.specs.Range.{in-range-range}
-use Rattle.session.specs.Steps.{isNew}
-use Rattle.session.specs.EventLaws.{Right, moves-of, in-moved, keptAfter-ascends}
-use Rattle.session.specs.ForeseenLaws.{see-new, see-old}
+use Rattle.moves.specs.Steps.{isNew}
+use Rattle.moves.specs.MovesLaws.{moves-of, in-moved}
+use Rattle.moves.specs.ReadyLaws.{see-new, see-old}
+use Rattle.keeping.specs.KeptAfterLaws.{keptAfter-ascends}
 use Rattle.session.specs.SteadyLaws.{every-of, kept-width, rightly, rightly-state}
-use Rattle.slices.specs.OrderLaws.{in-insertSeen}
 
 -- what is seen after b: b, unless it is empty, and what was seen
 pub in-see : (b : List ℕ) (seen : List (List ℕ)) (x : List ℕ) → In x (see width b seen) → In x seen ⊎ ((x ≡ b) × (b ≡ emptyOf width → ⊥))
@@ -131,7 +130,7 @@ module _ (p : Property) (r : inRange p ≡ true) (n m : ℕ) (seen kept : List �
       elim (in-append k new same .0 (in-inOrder (new ++ same) k .0 i)) [
         | inl j ↦
             let f = in-keepIf (keeps p) (moved width (nextState p) e b S K) k .0 j in
-            let g = in-moved (nextState p) e b S ob (keeps p) K k (f .0) in
+            let g = in-moved (nextState p) e b S ob K k (f .0) in
             inl (g .0, g .1, g .2, g .3, f .1)
         | inr j ↦ let f = in-keepIf (λ (x : Kept). not (includes (x .combination) b)) K k .0 j in inr (f .0, not-of (includes (k .combination) b) (f .1))
       ]

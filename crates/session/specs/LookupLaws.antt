@@ -1,43 +1,44 @@
 -- The returns of start and lookup.
 -- Assumes nothing.
-use Prim.Native.Nat.{ℕ, zero, suc, _+_, _-_, _*_, _<_, _≤_}
-use mathlib.Core.Path.{_≡_, refl, sym, ap, ap₂, subst, _∙_}
-use mathlib.Core.Logic.{_⊎_, inl, inr}
-use mathlib.Core.Bool.{Bool, true, false, not, cond}
+use Prim.Native.Nat.{ℕ, _+_, _*_, _<_, _≤_}
+use mathlib.Core.Path.{_≡_, refl, sym, ap, subst, _∙_}
+use mathlib.Core.Logic.{inl, inr}
+use mathlib.Core.Bool.{Bool, true, false, not}
 use mathlib.Core.List.{List, [], _∷_}
 use native.Mathlib.Omega.{arith}
 use native.Mathlib.Nat.{zero-add}
 use native.Mathlib.Decide.{decLt, ℕ-discrete}
-use lib.Dec.{T, ltb}
-use lib.ListN.{length, getD, replicate, length-replicate, getD-replicate}
+use lib.Dec.{T}
+use lib.ListN.{length, getD, length-replicate, getD-replicate}
 use borrow.Author.Tests.{lt-ltb, le-ltb, not-true, not-false}
-use Rattle.document.specs.Lists.{In, equal, tabulate}
+use Rattle.document.specs.Lists.{In, equal}
 use Rattle.document.specs.Limits.{width, seenStride, keptStride, mostStates}
 use Rattle.document.specs.Positions.{holds}
-use Rattle.document.specs.Refusals.{Answer, taken, refused, refuseIf}
+use Rattle.document.specs.Refusals.{taken}
 use Rattle.document.specs.Combinations.{emptyOf, precedes, zeroPast}
 use Rattle.document.specs.OneEvent.{Kept, joinSeen}
 use Rattle.document.specs.Property.{Property, inRange, verdict, hopeful}
-use Rattle.document.specs.Tables.{numbersAt, seenRoom, keptRoom, seenRows, keptRows, seenTable, keptTable}
-use Rattle.document.specs.Session.{Session, seenOf, keptOf, sessionWith, lentTables, firstKept, sound, start, startLeaves, Found, held, hopeless, findKept, lookup}
+use Rattle.document.specs.Tables.{numbersAt, seenRoom, keptRoom, seenRows, keptRows}
+use Rattle.document.specs.Session.{seenOf, keptOf, sessionWith, lentTables, firstKept, sound, start, startLeaves, held, findKept, lookup}
+use Rattle.words.specs.Range.{in-range-range}
 use Rattle.slices.specs.TestsLaws.{so, not-so, true-of, either, equal-of, of-equal}
 use Rattle.slices.specs.ListsLaws.{map-in}
 use Rattle.slices.specs.OrderLaws.{precedes-irrefl, Ascends, combinations}
 use Rattle.combos.specs.Rows.{SeenInOrder, Searchable, Parted}
 use Rattle.combos.specs.RowsLaws.{ascends-at, tabulate-in}
 use Rattle.combos.specs.Writes.{ZeroIn}
-use Rattle.judge.specs.Sound.{soundBy, sessionOf}
 use Rattle.property.specs.Meaning.{Hopes}
-use Rattle.words.specs.Range.{in-range-range}
-use Rattle.session.specs.Tables.{rowAt, keptFrom, seenFrom}
-use Rattle.session.specs.TablesLaws.{row-is, row-in, kept-tabulated, combinations-tabulated, kept-rows, seen-rows, kept-table, seen-table}
-use Rattle.session.specs.EventLaws.{one}
-use Rattle.session.specs.Ready.{Steady}
-use Rattle.session.specs.Calls.{started, StartLeaves, KnownOf, lookedUp, Findable, foundBy}
+use Rattle.judge.specs.Sound.{soundBy, sessionOf}
+use Rattle.tables.specs.Tables.{rowAt, keptFrom, seenFrom}
+use Rattle.tables.specs.TablesLaws.{row-is, kept-tabulated, kept-rows, row-in, combinations-tabulated}
+use Rattle.tables.specs.WholeLaws.{kept-table, seen-table}
+use Rattle.moves.specs.Steps.{one}
+use Rattle.moves.specs.Ready.{Steady}
+use Rattle.moves.specs.declared.Known.{Known}
+use Rattle.session.specs.Calls.{KnownOf, started, StartLeaves, lookedUp, Findable, foundBy}
 use Rattle.session.specs.SteadyLaws.{sound-steady}
 use Rattle.session.specs.FaceLaws.{known-sound, taken-property}
 use Rattle.session.specs.declared.Answered.{Answered}
-use Rattle.session.specs.declared.Known.{Known}
 use Rattle.session.specs.declared.Looked.{Looked}
 
 -- Start ----------------------------------------------------------------------------------------------------------------

@@ -1,38 +1,36 @@
 -- From the session check to what the step needs, and from the step over what a run works out to the document's step.
 -- Assumes nothing.
 use Prim.Native.Nat.{ℕ, zero, suc, _+_, _-_, _*_, _<_, _≤_}
-use mathlib.Core.Path.{_≡_, refl, sym, ap, ap₂, subst, _∙_}
-use mathlib.Core.Logic.{_⊎_, inl, inr}
-use mathlib.Core.Bool.{Bool, true, false, not, _&&_}
-use mathlib.Core.List.{List, [], _∷_, _++_}
-use mathlib.Core.List as list
+use mathlib.Core.Path.{_≡_, refl, sym, ap, _∙_}
+use mathlib.Core.Logic.{inl, inr}
+use mathlib.Core.Bool.{Bool, true, _&&_}
+use mathlib.Core.List.{List, [], _∷_}
 use native.Mathlib.Omega.{arith}
 use lib.Dec.{T, eqb, ltb, ltb→lt}
 use lib.ListN.{length, getD, take, drop, length-take, length-drop}
 use lib.Seq.{getD-take, getD-drop}
-use borrow.Author.Tests.{eqb-true, ltb-true, lt-ltb}
-use Rattle.document.specs.Lists.{In, every, keepIf, equal, tabulate}
-use Rattle.document.specs.Limits.{width, seenStride, keptStride, mostEvents, mostStates}
-use Rattle.document.specs.Positions.{holds}
-use Rattle.document.specs.Property.{Property, inRange, nextState, verdict, isAsked, hopeful}
+use borrow.Author.Tests.{eqb-true, lt-ltb}
+use Rattle.document.specs.Lists.{In, every, keepIf, equal}
+use Rattle.document.specs.Limits.{width, seenStride, keptStride}
+use Rattle.document.specs.Property.{Property, inRange, nextState, verdict, hopeful}
 use Rattle.document.specs.OneEvent.{Kept, joinSeen, inOrder, moves, movedFrom, moved, see, keptAfter, reportsAfter}
-use Rattle.document.specs.Tables.{numbersAt, seenRoom, keptRoom, seenRows, keptRows}
-use Rattle.document.specs.Session.{Session, Outcome, seenOf, keptOf, ascending, zeroBetween, keptCombinations, sound, keeps, reported, reportNumbers, outcome, written, withinRooms, stepFrom}
-use Rattle.slices.specs.TestsLaws.{so, true-of, either, and-of, equal-of}
+use Rattle.document.specs.Tables.{seenRoom, keptRoom, seenRows, keptRows}
+use Rattle.document.specs.Session.{Session, seenOf, keptOf, zeroBetween, keptCombinations, sound, keeps, reported, reportNumbers, outcome, written, withinRooms, stepFrom}
+use Rattle.words.specs.Range.{in-range-range}
+use Rattle.slices.specs.TestsLaws.{so, true-of, and-of, equal-of}
 use Rattle.slices.specs.ListsLaws.{in-keepIf, in-map}
-use Rattle.slices.specs.OrderLaws.{Ascends, combinations, ascending-of}
+use Rattle.slices.specs.OrderLaws.{combinations, ascending-of}
 use Rattle.combos.specs.NumbersLaws.{length-numbersAt}
 use Rattle.combos.specs.RowsLaws.{tabulate-in}
-use Rattle.judge.specs.Sound.{rightlyKeptBy, soundBy, soundBy-sound, sessionOf}
-use Rattle.judge.specs.SoundLaws.{Clauses, clauses-of, seen-room-inside, kept-room-inside}
 use Rattle.property.specs.Meaning.{Asks, Hopes}
-use Rattle.words.specs.Range.{in-range-range}
-use Rattle.session.specs.Steps.{stepOf, stateIn, outcomeBy}
-use Rattle.session.specs.Tables.{rowAt, keptFrom}
-use Rattle.session.specs.TablesLaws.{kept-rows}
-use Rattle.session.specs.EventLaws.{Right}
-use Rattle.session.specs.Ready.{Onward, Keeps, Steady}
-use Rattle.session.specs.Calls.{reportNumbersBy, writtenBy, withinRoomsBy, stepBy}
+use Rattle.judge.specs.Sound.{rightlyKeptBy, soundBy-sound, sessionOf}
+use Rattle.judge.specs.SoundLaws.{Clauses, clauses-of, seen-room-inside, kept-room-inside}
+use Rattle.tables.specs.Tables.{rowAt, keptFrom}
+use Rattle.tables.specs.TablesLaws.{kept-rows}
+use Rattle.moves.specs.Steps.{stepOf, stateIn, outcomeBy}
+use Rattle.moves.specs.Ready.{Steady}
+use Rattle.writing.specs.Writing.{reportNumbersBy, writtenBy}
+use Rattle.session.specs.Calls.{withinRoomsBy, stepBy}
 
 pub every-of : {A : Type 0} (p : A → Bool) (l : List A) → every p l ≡ true → (x : A) → In x l → p x ≡ true
 unfolding every

@@ -1,6 +1,6 @@
 -- `session::step` meets its contract: worked out, then refused with nothing altered or written down.
 -- Assumes nothing.
-use Rattle.session.specs.WriteLaws.{step-refused, step-tellable, step-taken}
+use Rattle.session.specs.StepLaws.{step-refused, step-tellable, step-taken}
 use mathlib.Core.List.{[]}
 use Prim.Native.Nat.{_-_}
 use borrow.Author.Needs.{needs}

@@ -1,0 +1,4 @@
+pub mod Foreseen
+pub mod WeighLaws
+pub mod CountLaws
+pub mod ForeseenLaws

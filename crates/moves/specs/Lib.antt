@@ -1,0 +1,4 @@
+pub mod Steps
+pub mod Ready
+pub mod MovesLaws
+pub mod ReadyLaws

@@ -1,0 +1,4 @@
+pub mod Writing
+pub mod ReportsLaws
+pub mod ReportLaws
+pub mod WriteLaws
