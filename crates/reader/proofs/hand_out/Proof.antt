@@ -128,9 +128,17 @@ module _ {M : Type 1} (𝓤 : URA M) (H : Heap 𝓤) (A : Atoms 𝓤) (W : Given
   abbrev vh : Values (D .parts)
   vh = (h .log, (h .at, tt))
 
-  -- what a row's log part owns
+  -- a part of the log, as a callee takes and returns it
   abbrev Bytes : RattleType
   Bytes = ShrSlice (named 0) κ′ u8
+
+  -- what the reader owns is had twice: one copy is kept whole, and of the other what the log owns is taken
+  log-copied : ent 𝓤 (sem 𝓤 H A Own) (sep 𝓤 (sem 𝓤 H A (Bytes .own (h .log) (v ∷ []))) (sem 𝓤 H A Own))
+  log-copied =
+      qed W (‵ Own ∷ []) ∵ use1 W (‵ Own ⊛ ‵ Own) (LL.copy D (T′.the-copy (α κ′)) 𝓤 H A W .twice h (mach ∷ [])) $ split ! $
+      use1 W (given (mach ∷ [] ≡ mach ∷ []) (‵ (all-own (D .parts) L vh))) (own-open 𝓤 H A W D L vh mach) $ learn ! (λ _. use1 W (‵ (ownAt (D .parts) L 0 (h .log)) ⊛ ‵ (rest (D .parts) L 0 vh)) (own-out 𝓤 H A W (D .parts) L 0 vh) $ split ! $
+      -- [what the log owns; what at owns; what the reader owns]
+      move ! (1 ∷ []) $ leave ! $ done !)
 
   -- the call of `place_at`: what it is passed, what it asks, and what is known of its result
   abbrev passed-place : Vals place-at.signature (κ′, tt)
@@ -145,11 +153,10 @@ module _ {M : Type 1} (𝓤 : URA M) (H : Heap 𝓤) (A : Atoms 𝓤) (W : Given
   goes-place : h .at < 2 ^ 64 → ent 𝓤 (⋆ 𝓤 H A ((‵ (flft κ′ q′) ⊛ ‵ ftrue) ∷ ‵ Own ∷ [])) (sep 𝓤 (PlaceAt 𝓤 H A at-mem run .pre to-place) (sem 𝓤 H A Own))
   goes-place fits =
       qed W ((‵ (flft κ′ q′) ⊛ ‵ ftrue) ∷ ‵ Own ∷ []) ∵
-      move ! (1 ∷ []) $ use1 W (‵ Own ⊛ ‵ Own) (LL.copy D (T′.the-copy (α κ′)) 𝓤 H A W .twice h (mach ∷ [])) $ split ! $
-      use1 W (given (mach ∷ [] ≡ mach ∷ []) (‵ (all-own (D .parts) L vh))) (own-open 𝓤 H A W D L vh mach) $ learn ! (λ _. use1 W (‵ (ownAt (D .parts) L 0 (h .log)) ⊛ ‵ (rest (D .parts) L 0 vh)) (own-out 𝓤 H A W (D .parts) L 0 vh) $ split ! $
-      -- [what the log owns; what at owns; what the reader owns; the token]
-      move ! (1 ∷ []) $ leave ! $ nothing ! $ owned ! usize (Is usize) (uint-makes 𝓤 H A W w64) (h .at) _ (refl, fits) $ fjoin ! $ move ! (1 ∷ 0 ∷ []) $ fjoin ! $
-      move ! (2 ∷ 0 ∷ []) $ use2 W (raw (PlaceAt 𝓤 H A at-mem run .pre to-place)) asked-place $ frame ! $ done !)
+      move ! (1 ∷ []) $ use1 W (‵ (Bytes .own (h .log) (v ∷ [])) ⊛ ‵ Own) log-copied $ split ! $
+      -- [what the log owns; what the reader owns; the token]
+      nothing ! $ owned ! usize (Is usize) (uint-makes 𝓤 H A W w64) (h .at) _ (refl, fits) $ fjoin ! $ move ! (1 ∷ 0 ∷ []) $ fjoin ! $
+      move ! (2 ∷ 0 ∷ []) $ use2 W (raw (PlaceAt 𝓤 H A at-mem run .pre to-place)) asked-place $ frame ! $ done !
 
   said-place : (p : Place) → ent 𝓤 (ensured 𝓤 H A place-at.ended (place-at.clauses 𝓤 H A at-mem run) (κ′, tt) (h .log, (h .at, tt)) tt p) (fact 𝓤 (p ≡ placeAt (now (h .log)) (h .at)))
   said-place p = exE 𝓤 _ (λ ws. snd∗ 𝓤 (sem 𝓤 H A (lasts place-at.ended (κ′, tt) (h .log, (h .at, tt)) ws)) (fact 𝓤 (p ≡ placeAt (now (h .log)) (h .at))))
@@ -167,11 +174,10 @@ module _ {M : Type 1} (𝓤 : URA M) (H : Heap 𝓤) (A : Atoms 𝓤) (W : Given
   goes-part : (e : ℕ) → h .at < 2 ^ 64 → e < 2 ^ 64 → ent 𝓤 (⋆ 𝓤 H A ((‵ (flft κ′ q′) ⊛ ‵ ftrue) ∷ ‵ Own ∷ [])) (sep 𝓤 (PartOf 𝓤 H A at-mem run .pre (to-part e)) (sem 𝓤 H A Own))
   goes-part e fits e-fits =
       qed W ((‵ (flft κ′ q′) ⊛ ‵ ftrue) ∷ ‵ Own ∷ []) ∵
-      move ! (1 ∷ []) $ use1 W (‵ Own ⊛ ‵ Own) (LL.copy D (T′.the-copy (α κ′)) 𝓤 H A W .twice h (mach ∷ [])) $ split ! $
-      use1 W (given (mach ∷ [] ≡ mach ∷ []) (‵ (all-own (D .parts) L vh))) (own-open 𝓤 H A W D L vh mach) $ learn ! (λ _. use1 W (‵ (ownAt (D .parts) L 0 (h .log)) ⊛ ‵ (rest (D .parts) L 0 vh)) (own-out 𝓤 H A W (D .parts) L 0 vh) $ split ! $
-      -- [what the log owns; what at owns; what the reader owns; the token]
-      move ! (1 ∷ []) $ leave ! $ nothing ! $ owned ! usize (Is usize) (uint-makes 𝓤 H A W w64) e _ (refl, e-fits) $ fjoin ! $ owned ! usize (Is usize) (uint-makes 𝓤 H A W w64) (h .at) _ (refl, fits) $ fjoin ! $ move ! (1 ∷ 0 ∷ []) $ fjoin ! $
-      move ! (2 ∷ 0 ∷ []) $ use2 W (raw (PartOf 𝓤 H A at-mem run .pre (to-part e))) (asked-part e) $ frame ! $ done !)
+      move ! (1 ∷ []) $ use1 W (‵ (Bytes .own (h .log) (v ∷ [])) ⊛ ‵ Own) log-copied $ split ! $
+      -- [what the log owns; what the reader owns; the token]
+      nothing ! $ owned ! usize (Is usize) (uint-makes 𝓤 H A W w64) e _ (refl, e-fits) $ fjoin ! $ owned ! usize (Is usize) (uint-makes 𝓤 H A W w64) (h .at) _ (refl, fits) $ fjoin ! $ move ! (1 ∷ 0 ∷ []) $ fjoin ! $
+      move ! (2 ∷ 0 ∷ []) $ use2 W (raw (PartOf 𝓤 H A at-mem run .pre (to-part e))) (asked-part e) $ frame ! $ done !
 
   said-part : (e : ℕ) (s : RefT (List ℕ)) → ent 𝓤 (ensured 𝓤 H A part.ended (part.clauses 𝓤 H A at-mem run) (κ′, tt) (h .log, (h .at, (e, tt))) tt s) (fact 𝓤 (now s ≡ take (e - h .at) (drop (h .at) (now (h .log)))))
   said-part e s = exE 𝓤 _ (λ ws. snd∗ 𝓤 (sem 𝓤 H A (lasts part.ended (κ′, tt) (h .log, (h .at, (e, tt))) ws)) (fact 𝓤 (now s ≡ take (e - h .at) (drop (h .at) (now (h .log))))))
