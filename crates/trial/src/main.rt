@@ -2,13 +2,13 @@
 // byte for byte with those of the second program. A batch is read through one buffer and answered through another.
 ghost use Prim.Native.Nat.{_≤_};
 ghost use lib.ListN.{length};
-use answer_sessions::Step;
-use answer_sessions::memory;
-use answer_sessions::memory::Memory;
 use batch::input;
 use batch::read;
 use batch::told::Told;
 use batch::write;
+use remembered::Step;
+use remembered::memory;
+use remembered::memory::Memory;
 
 // Two whole requests of the largest size.
 const INPUT_BYTES: usize = 131072;
@@ -42,6 +42,25 @@ fn answer_alone(word: &[u8], s: &[u8], at: usize, out: &mut [u8], filled: usize)
     answer_patterns::answer(word, s, at, out, filled)
 }
 
+// The answer of a call on what is remembered.
+fn answer_on_memory(
+    word: &[u8],
+    s: &[u8],
+    at: usize,
+    out: &mut [u8],
+    filled: usize,
+    m: Memory,
+    seen: &mut [u32],
+    kept: &mut [u32],
+    reports: &mut [u32],
+    declared: &mut [u8],
+) -> Step {
+    if answer_sessions::knows(word) {
+        return answer_sessions::answer(word, s, at, out, filled, m, seen, kept, reports);
+    }
+    remembered::answer(word, s, at, out, filled, m, seen, kept, reports, declared)
+}
+
 // The answer to the request at a place, by its word.
 fn answer(
     s: &[u8],
@@ -66,7 +85,7 @@ fn answer(
             memory: m,
         };
     }
-    answer_sessions::answer(word, s, end, out, filled, m, seen, kept, reports, declared)
+    answer_on_memory(word, s, end, out, filled, m, seen, kept, reports, declared)
 }
 
 // What is held and filled after a request that ends at a place: its answer's line is ended, or it is answered `malformed`,

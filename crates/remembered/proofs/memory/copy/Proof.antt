@@ -1,11 +1,11 @@
--- `answer_sessions::memory::copy` is safe and ends: it moves one byte a turn.
+-- `remembered::memory::copy` is safe and ends: it moves one byte a turn.
 -- Assumes nothing.
 use Prim.Native.Nat.{_-_}
 use mathlib.Core.Path.{_≡_}
 use borrow.Author.Needs.{needs}
 use lib.ListN.{length}
-use Rattle.answer_sessions.proofs.memory.copy.Statement.{statement}
-use Rattle.answer_sessions.proofs.memory.copy.Tie as tie
+use Rattle.remembered.proofs.memory.copy.Statement.{statement}
+use Rattle.remembered.proofs.memory.copy.Tie as tie
 
 abbrev Inv-loop : tie.InvT-loop
 Inv-loop from to₀ i₀ to i = length to ≡ length to₀

@@ -1,11 +1,11 @@
--- `answer_sessions::memory::filled` is safe and ends: it puts one number a turn, and there is room for all.
+-- `remembered::memory::filled` is safe and ends: it puts one number a turn, and there is room for all.
 -- Assumes nothing.
 use Prim.Native.Nat.{_≤_, _-_}
 use mathlib.Core.Path.{_≡_}
 use borrow.Author.Needs.{needs}
 use lib.ListN.{length}
-use Rattle.answer_sessions.proofs.memory.filled.Statement.{statement}
-use Rattle.answer_sessions.proofs.memory.filled.Tie as tie
+use Rattle.remembered.proofs.memory.filled.Statement.{statement}
+use Rattle.remembered.proofs.memory.filled.Tie as tie
 
 abbrev Inv-loop : tie.InvT-loop
 Inv-loop s at t₀ count value i₀ t i = (length t ≡ length t₀) × (count .value ≤ length t)

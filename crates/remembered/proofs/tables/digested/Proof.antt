@@ -1,10 +1,10 @@
--- `answer_sessions::tables::digested` meets its contract: each number mixed in leaves the digest below its modulus.
+-- `remembered::tables::digested` meets its contract: each number mixed in leaves the digest below its modulus.
 -- Assumes nothing.
 use Prim.Native.Nat.{_-_, _<_}
 use borrow.Author.Needs.{needs}
 use lib.ListN.{length}
-use Rattle.answer_sessions.proofs.tables.digested.Statement.{statement}
-use Rattle.answer_sessions.proofs.tables.digested.Tie as tie
+use Rattle.remembered.proofs.tables.digested.Statement.{statement}
+use Rattle.remembered.proofs.tables.digested.Tie as tie
 
 abbrev Inv-loop : tie.InvT-loop
 Inv-loop digest numbers d₀ i₀ d i = d < 4294967291
