@@ -35,7 +35,7 @@ fn from_byte(n: u8) -> u32 {
 }
 
 // How many numbers are lent of a table that has so many.
-fn within(count: usize, size: usize) -> usize
+pub fn within(count: usize, size: usize) -> usize
     ensures { λ r. ⌜ r ≤ size ⌝ }
 {
     if size < count {
@@ -75,7 +75,7 @@ fn counted(m: Memory, seen: usize, kept: usize) -> Memory {
 }
 
 // A request that is not answered.
-fn unanswered(filled: usize, memory: Memory) -> Step {
+pub fn unanswered(filled: usize, memory: Memory) -> Step {
     Step {
         next: read::STUCK,
         filled,
@@ -217,6 +217,26 @@ fn taken_or_refused(out: &mut [u8], filled: usize, a: Answered) -> usize {
     write::then_number(out, begun, a.reported)
 }
 
+// What is told of an event: its answer, then the tables with the counts after it.
+pub fn tell(
+    next: usize,
+    out: &mut [u8],
+    filled: usize,
+    m: Memory,
+    a: Answered,
+    seen: &[u32],
+    kept: &[u32],
+    reports: &[u32],
+) -> Step {
+    let memory = counted(m, a.seen, a.kept);
+    let begun = taken_or_refused(out, filled, a);
+    Step {
+        next,
+        filled: tables::then_tables(out, begun, memory, seen, kept, reports),
+        memory,
+    }
+}
+
 // `event` N values
 fn event(
     s: &[u8],
@@ -246,13 +266,7 @@ fn event(
         e,
         values,
     );
-    let memory = counted(m, a.seen, a.kept);
-    let begun = taken_or_refused(out, filled, a);
-    Step {
-        next,
-        filled: tables::then_tables(out, begun, memory, seen, kept, reports),
-        memory,
-    }
+    tell(next, out, filled, m, a, seen, kept, reports)
 }
 
 // `found` and the state and its verdict, or `hopeless`, or the refusal.

@@ -42,7 +42,8 @@ fn answer_alone(word: &[u8], s: &[u8], at: usize, out: &mut [u8], filled: usize)
     answer_patterns::answer(word, s, at, out, filled)
 }
 
-// The answer of a call on what is remembered.
+// The answer of a call on what is remembered. A group whose calls change the tables is chosen by its word, and none is asked after
+// it.
 fn answer_on_memory(
     word: &[u8],
     s: &[u8],
