@@ -130,6 +130,16 @@ fn lookup_in(m: Memory, seen: &[u32], kept: &[u32], c: Combination) -> Looked {
     )
 }
 
+fn grown(taken: usize, reported: usize, refusal: u8, seen: usize, kept: usize) -> Growth {
+    Growth {
+        taken,
+        reported,
+        refusal,
+        seen,
+        kept,
+    }
+}
+
 // An event, again and again with values that go up, until one is refused.
 fn grow_in(
     m: Memory,
@@ -149,13 +159,7 @@ fn grow_in(
     while taken < times {
         let a = event_in(m, seen, seen_count, kept, kept_count, reports, e, values);
         if a.refusal != refusals::TAKEN {
-            return Growth {
-                taken,
-                reported,
-                refusal: a.refusal,
-                seen: seen_count,
-                kept: kept_count,
-            };
+            return grown(taken, reported, a.refusal, seen_count, kept_count);
         }
         seen_count = a.seen;
         kept_count = a.kept;
@@ -164,13 +168,7 @@ fn grow_in(
         values = more;
         taken += 1;
     }
-    Growth {
-        taken,
-        reported,
-        refusal: refusals::TAKEN,
-        seen: seen_count,
-        kept: kept_count,
-    }
+    grown(taken, reported, refusals::TAKEN, seen_count, kept_count)
 }
 
 // The requests ------------------------------------------------------------------------------------------------------------

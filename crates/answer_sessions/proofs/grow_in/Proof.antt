@@ -19,6 +19,9 @@ loop-holds c = search needs
 event-in-requires : tie.Need-event-in-requires Inv-loop μ-loop
 event-in-requires c κs = search needs
 
+grown-requires : tie.Need-grown-requires Inv-loop μ-loop
+grown-requires c κs = search needs
+
 same-length : tie.Need-same-length Inv-loop μ-loop
 same-length c = search needs
 
@@ -46,6 +49,9 @@ loop-less c = search needs
 loop-again : tie.Need-loop-again Inv-loop μ-loop
 loop-again c = search needs
 
+grown-requires-2 : tie.Need-grown-requires-2 Inv-loop μ-loop
+grown-requires-2 c κs = search needs
+
 same-length-4 : tie.Need-same-length-4 Inv-loop μ-loop
 same-length-4 c = search needs
 
@@ -66,6 +72,7 @@ grow-in-spec =
     μ-loop
     loop-holds
     event-in-requires
+    grown-requires
     same-length
     same-length-2
     same-length-3
@@ -75,6 +82,7 @@ grow-in-spec =
     add-taken
     loop-less
     loop-again
+    grown-requires-2
     same-length-4
     same-length-5
     same-length-6
