@@ -1,0 +1,54 @@
+-- Document 01, "The program and its example": the lines as the code writes them, over the numbers that it holds, and how long
+-- they can be.
+-- Assumes nothing.
+use Prim.Native.Nat.{ℕ, _+_, _*_}
+use mathlib.Core.List.{List, [], _∷_, _++_}
+use mathlib.Core.List as list
+use lib.ListN.{replicate}
+use Rattle.document.specs.Limits.{width, nameBytes}
+use Rattle.document.specs.Refusals.{Answer, taken, refused}
+use Rattle.document.specs.Declarations.{Declared}
+use Rattle.document.specs.Printing.{decimal, rowWord, verdictWord, refusedWord, valueText, withCommas, line}
+use Rattle.lines.specs.Decimals.{mostDigits, valueDigits, refusalDigits}
+
+-- values, each with its comma
+unfoldable pub valuesText : List ℕ → List ℕ
+valuesText values = withCommas (list.map valueText values)
+
+-- a refusal by its number: `refusedText` and `refusedLine` of each refusal are these of its number
+unfoldable pub refusedNumberText : ℕ → List ℕ
+refusedNumberText q = refusedWord ++ decimal q
+
+unfoldable pub refusedNumberLine : ℕ → ℕ → ℕ → List ℕ
+refusedNumberLine m n q = line (decimal n) (refusedNumberText q ∷ replicate m [])
+
+-- "`row,verdict` and the parameter names" of declarations that are taken
+unfoldable pub headingOf : Answer Declared → List ℕ
+headingOf (taken d) = line rowWord (verdictWord ∷ d .parameters)
+headingOf (refused q at) = []
+
+-- How long: a value with its comma, all values, a verdict with its comma, `refused` with its number, a line end.
+abbrev pub mostValue : ℕ
+mostValue = 1 + valueDigits
+
+abbrev pub mostValues : ℕ
+mostValues = width * mostValue
+
+abbrev pub mostVerdict : ℕ
+mostVerdict = 6
+
+abbrev pub mostRefused : ℕ
+mostRefused = 8 + refusalDigits
+
+abbrev pub lineEndBytes : ℕ
+lineEndBytes = 2
+
+-- a line under the heading, of a report or a refused row; the line of a refused call; the heading
+abbrev pub mostLine : ℕ
+mostLine = mostDigits + mostVerdict + mostValues + lineEndBytes
+
+abbrev pub mostRefusal : ℕ
+mostRefusal = mostRefused + lineEndBytes
+
+abbrev pub mostHeading : ℕ
+mostHeading = 11 + width * (1 + nameBytes) + lineEndBytes
