@@ -49,15 +49,14 @@ unfolding valuesText withCommas joinedUp
 values-snoc [] x = append-nil (comma ∷ valueText x)
 values-snoc (y ∷ xs) x = ap (λ l. (comma ∷ valueText y) ++ l) (values-snoc xs x) ∙ sym (append-assoc (comma ∷ valueText y) (valuesText xs) (comma ∷ valueText x))
 
-pub values-begin : (at : ℕ) (l t : List ℕ) → at ≤ length t → Written at (0 * mostValue) (valuesText (take 0 l)) t t at
+pub values-begin : (at : ℕ) (t : List ℕ) → at ≤ length t → Written at (0 * mostValue) (valuesText []) t t at
 unfolding valuesText withCommas joinedUp
-values-begin at l t h = written-none at t h
+values-begin at t h = written-none at t h
 
-pub values-turn : (at j k n from : ℕ) (l t t′ t″ : List ℕ) → from + j < length l
-    → Written at (j * mostValue) (valuesText (take j (drop from l))) t t′ k
-    → Written k mostValue (comma ∷ valueText (getD l (from + j) 0)) t′ t″ n
+pub values-turn : (at j k n from : ℕ) (l t t′ t″ : List ℕ) → Written at (j * mostValue) (valuesText (take j (drop from l))) t t′ k
+    → Written k mostValue (comma ∷ valueText (getD l (from + j) 0)) t′ t″ n → from + j < length l
     → Written at ((j + 1) * mostValue) (valuesText (take (j + 1) (drop from l))) t t″ n
-values-turn at j k n from l t t′ t″ h v w =
+values-turn at j k n from l t t′ t″ v w h =
     let i : j < length (drop from l) = rw length-drop (omega arith) in
     let e : take (j + 1) (drop from l) ≡ take j (drop from l) ++ (getD l (from + j) 0 ∷ []) =
     rw (add-one j, take-suc (drop from l) j 0 i, getD-drop from l j 0) in
