@@ -5,3 +5,5 @@ pub mod WrittenLaws
 pub mod DecimalsLaws
 pub mod DigitTurnsLaws
 pub mod LinesLaws
+pub mod HeadingLaws
+pub mod BoundsLaws

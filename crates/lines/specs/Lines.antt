@@ -22,12 +22,17 @@ refusedNumberText q = refusedWord ++ decimal q
 unfoldable pub refusedNumberLine : ℕ → ℕ → ℕ → List ℕ
 refusedNumberLine m n q = line (decimal n) (refusedNumberText q ∷ replicate m [])
 
--- "`row,verdict` and the parameter names" of declarations that are taken
+-- the parameter names of declarations that are taken, each with its comma; the heading: "`row,verdict` and the parameter names"
+unfoldable pub namesOf : Answer Declared → List ℕ
+namesOf (taken d) = withCommas (d .parameters)
+namesOf (refused q at) = []
+
 unfoldable pub headingOf : Answer Declared → List ℕ
 headingOf (taken d) = line rowWord (verdictWord ∷ d .parameters)
 headingOf (refused q at) = []
 
--- How long: a value with its comma, all values, a verdict with its comma, `refused` with its number, a line end.
+-- How long: a value with its comma, all values, a verdict with its comma, `refused` with its number, a line end, all names
+-- with their commas.
 abbrev pub mostValue : ℕ
 mostValue = 1 + valueDigits
 
@@ -43,6 +48,9 @@ mostRefused = 8 + refusalDigits
 abbrev pub lineEndBytes : ℕ
 lineEndBytes = 2
 
+abbrev pub mostNames : ℕ
+mostNames = width * (1 + nameBytes)
+
 -- a line under the heading, of a report or a refused row; the line of a refused call; the heading
 abbrev pub mostLine : ℕ
 mostLine = mostDigits + mostVerdict + mostValues + lineEndBytes
@@ -51,4 +59,4 @@ abbrev pub mostRefusal : ℕ
 mostRefusal = mostRefused + lineEndBytes
 
 abbrev pub mostHeading : ℕ
-mostHeading = 11 + width * (1 + nameBytes) + lineEndBytes
+mostHeading = 11 + mostNames + lineEndBytes

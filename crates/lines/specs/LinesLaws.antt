@@ -72,7 +72,7 @@ values-end at j m n from l t t′ a b c w =
 
 -- The loop over empty values ----------------------------------------------------------------------------------------------
 
-commas-are : (n : ℕ) → withCommas (replicate n []) ≡ replicate n comma
+pub commas-are : (n : ℕ) → withCommas (replicate n []) ≡ replicate n comma
 unfolding withCommas joinedUp
 commas-are zero = refl
 commas-are (suc n) = ap (λ l. comma ∷ l) (commas-are n)

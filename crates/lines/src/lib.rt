@@ -6,17 +6,24 @@ ghost use mathlib.Core.List.{[], _∷_, _++_};
 ghost use Prim.Native.Nat.{ℕ, _+_, _*_, _≤_, _<_};
 ghost use lib.ListN.{length, take, drop, replicate};
 ghost use Rattle.document.specs.Limits.{width, reportStride};
+ghost use Rattle.document.specs.Refusals.{refusalOf};
 ghost use Rattle.document.specs.Classes.{comma};
+ghost use Rattle.document.specs.Declarations.{declarations};
 ghost use Rattle.document.specs.Printing.{decimal, lineEnd, wordOf, withCommas, valueText, reportLine, reportLines};
 ghost use Rattle.lines.specs.Written.{Written};
 ghost use Rattle.lines.specs.Decimals.{lastDigits, mostDigits};
-ghost use Rattle.lines.specs.Lines.{valuesText, refusedNumberText, refusedNumberLine, mostValue, mostValues, mostVerdict, mostRefused, lineEndBytes, mostLine, mostRefusal};
+ghost use Rattle.lines.specs.Lines.{valuesText, refusedNumberText, refusedNumberLine, namesOf, headingOf, mostValue, mostValues, mostVerdict, mostRefused, lineEndBytes, mostNames, mostLine, mostRefusal, mostHeading};
 
-// Bytes that a line of a report or of a refused row can have at most, and the only line of a refused call: what a caller
-// must have room for, and `Lines.mostLine` and the like say of what these are made up.
+// Bytes that the line of a report or of a refused row can have at most, the only line of a refused call, the heading: what a
+// caller must have room for. `mostLine` and the like of specs/Lines.antt say of what they are made up.
 pub const MOST_LINE: usize = 72;
 
 pub const MOST_REFUSAL: usize = 13;
+
+pub const MOST_HEADING: usize = 145;
+
+// Bytes of `event`, with which a header begins.
+const EVENT_BYTES: usize = 5;
 
 // Numbers in a report: a value for each parameter, then the verdict.
 const WIDTH: usize = 4;
@@ -30,7 +37,7 @@ const COMMA: u8 = 44;
 
 const ZERO: u8 = 48;
 
-// The digits of the largest power of ten that a number of 64 bits reaches, less one.
+// Ten to the power of it is the largest power of ten of 64 bits: a number that reaches it has one digit more, and no other has.
 const SURE_DIGITS: usize = 19;
 
 // Bytes -----------------------------------------------------------------------------------------------------------------
@@ -240,5 +247,24 @@ pub fn put_refusal(text: &mut [u8], at: usize, refusal: u8) -> usize
     ensures { λ r. ⌜ Written at mostRefusal (refusedNumberText refusal ++ lineEnd) (now (text .entry)) (now (text .exit)) r ⌝ }
 {
     let end_at = put_refused_text(text, at, refusal);
+    put_line_end(text, end_at)
+}
+
+// Writes the parameter names, each with its comma: the bytes of the declarations' first row past `event`.
+fn put_names(text: &mut [u8], at: usize, events: &[u8]) -> usize
+    requires { ⌜ (refusalOf (declarations (now events)) ≡ 0) × (at + mostNames ≤ length (now text)) ⌝ }
+    ensures { λ r. ⌜ Written at mostNames (namesOf (declarations (now (events .entry)))) (now (text .entry)) (now (text .exit)) r ⌝ }
+{
+    let end = rows::row_end(events, 0);
+    put_bytes(text, at, &events[EVENT_BYTES..end])
+}
+
+// Writes the heading, `row,verdict` and the parameter names of declarations that are taken.
+pub fn put_heading(text: &mut [u8], at: usize, events: &[u8]) -> usize
+    requires { ⌜ (refusalOf (declarations (now events)) ≡ 0) × (at + mostHeading ≤ length (now text)) ⌝ }
+    ensures { λ r. ⌜ Written at mostHeading (headingOf (declarations (now (events .entry)))) (now (text .entry)) (now (text .exit)) r ⌝ }
+{
+    let names_at = put_bytes(text, at, b"row,verdict");
+    let end_at = put_names(text, names_at, events);
     put_line_end(text, end_at)
 }
