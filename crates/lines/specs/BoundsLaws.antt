@@ -1,15 +1,16 @@
 -- How long lines can be: the bounds that one who lends the text counts with.
 -- Assumes nothing.
-use Prim.Native.Nat.{ℕ, zero, suc, _+_, _*_, _^_, _≤_, _<_}
-use mathlib.Core.Path.{_≡_}
+use Prim.Native.Nat.{ℕ, zero, suc, _+_, _-_, _*_, _/_, _^_, _≤_, _<_}
+use mathlib.Core.Path.{_≡_, sym, _∙_}
 use mathlib.Core.Logic.{inl, inr}
 use mathlib.Core.Bool.{true, false}
 use mathlib.Core.List.{List, [], _∷_}
 use mathlib.Core.List as list
 use native.Mathlib.Omega.{arith}
 use lib.ListN.{length, getD, take, drop, replicate, length-append, length-take, length-replicate}
-use lib.Seq.{getD-take, getD-drop}
-use lib.Dec.{eqb}
+use lib.Seq.{getD-drop}
+use lib.Dec.{eqb, leb}
+use borrow.Author.Tests.{le-leb, lt-leb, leb-true, leb-false}
 use Rattle.document.specs.Lists.{joinedUp}
 use Rattle.document.specs.Limits.{width, reportStride}
 use Rattle.document.specs.Classes.{comma}
@@ -110,3 +111,14 @@ refused-number-length m n q h b s =
 
 pub refused-line-length : (m n : ℕ) (r : Refusal) → m ≤ width → n < 2 ^ 64 → length (refusedLine m n r) ≤ mostLine
 refused-line-length m n r h b = rw (refused-line-number m n r) (refused-number-length m n (number r) h b (number-byte r))
+
+-- Whether so many lines fit in a text from a place on -----------------------------------------------------------------------
+
+pub none-fit : (size at count : ℕ) → size < at → false ≡ leb (at + count * mostLine) size
+none-fit size at count h = sym (lt-leb (at + count * mostLine) size (omega arith))
+
+pub fit-by-room : (size at count : ℕ) → at ≤ size → leb count ((size - at) / mostLine) ≡ leb (at + count * mostLine) size
+fit-by-room size at count h = elim (split-bool (leb count ((size - at) / mostLine))) [
+  | inl e ↦ let l = leb-true count ((size - at) / mostLine) e in e ∙ sym (le-leb (at + count * mostLine) size (omega arith))
+  | inr e ↦ let l = leb-false count ((size - at) / mostLine) e in e ∙ sym (lt-leb (at + count * mostLine) size (omega arith))
+]

@@ -5,6 +5,7 @@ ghost use mathlib.Core.Path.{_≡_};
 ghost use mathlib.Core.List.{[], _∷_, _++_};
 ghost use Prim.Native.Nat.{ℕ, _+_, _*_, _≤_, _<_};
 ghost use lib.ListN.{length, take, drop, replicate};
+ghost use lib.Dec.{leb};
 ghost use Rattle.document.specs.Limits.{width, reportStride};
 ghost use Rattle.document.specs.Refusals.{refusalOf};
 ghost use Rattle.document.specs.Classes.{comma};
@@ -187,6 +188,16 @@ fn put_line_end(text: &mut [u8], at: usize) -> usize
 }
 
 // Lines -----------------------------------------------------------------------------------------------------------------
+
+// Whether so many lines fit in a text of some bytes from a place on, however long they are.
+pub fn lines_fit(size: usize, at: usize, count: usize) -> bool
+    ensures { λ r. ⌜ r ≡ leb (at + count * mostLine) size ⌝ }
+{
+    if size < at {
+        return false;
+    }
+    count <= (size - at) / MOST_LINE
+}
 
 // Writes the line of the report that stands from a place of the report numbers on.
 pub fn put_report(
