@@ -3,7 +3,7 @@
 use Prim.Native.Nat.{ℕ, zero, suc, _+_, _-_, _*_, _/_, _^_, _≤_, _<_}
 use mathlib.Core.Path.{_≡_, sym, _∙_}
 use mathlib.Core.Logic.{inl, inr}
-use mathlib.Core.Bool.{true, false}
+use mathlib.Core.Bool.{false}
 use mathlib.Core.List.{List, [], _∷_}
 use mathlib.Core.List as list
 use native.Mathlib.Omega.{arith}
@@ -18,9 +18,9 @@ use Rattle.document.specs.Patterns.{match}
 use Rattle.document.specs.Refusals.{Refusal, textTooLong, badShape, badName, nameTwice, overLimits, notOfGrammar, undeclaredEvent, tooManyNames, tooDeep, tooManyStates, badProperty, badSession, noSuchEvent, wrongValues, noRoomForSeen, noRoomForKept, noRoomForReports, badRow, unknownEvent, badValue, wrongFields, headerDiffers, badLookup, offsetPastLog, tableDiffers, number}
 use Rattle.document.specs.Printing.{decimal, wordOf, withCommas, valueText, line, reportLine, reportLines, refusedLine}
 use Rattle.rows.specs.RowsLaws.{split-bool}
-use Rattle.lines.specs.Decimals.{mostDigits, valueDigits, refusalDigits}
+use Rattle.lines.specs.Decimals.{valueDigits}
 use Rattle.lines.specs.DecimalsLaws.{decimal-usize, decimal-value, decimal-byte}
-use Rattle.lines.specs.Lines.{valuesText, refusedNumberText, refusedNumberLine, mostValue, mostLine}
+use Rattle.lines.specs.Lines.{refusedNumberText, refusedNumberLine, mostValue, mostLine}
 use Rattle.lines.specs.LinesLaws.{commas-are, refused-line-number}
 
 -- Pieces ------------------------------------------------------------------------------------------------------------------

@@ -1,11 +1,11 @@
 -- Laws of the heading: of declarations that are taken, the parameter names with their commas are the bytes of the first row
 -- past `event`, and they are few.
 -- Assumes nothing.
-use Prim.Native.Nat.{ℕ, zero, suc, _+_, _-_, _*_, _≤_, _<_}
+use Prim.Native.Nat.{ℕ, zero, suc, _+_, _-_, _*_, _≤_}
 use mathlib.Core.Path.{_≡_, refl, sym, ap, ap₂, _∙_}
-use mathlib.Core.Logic.{_⊎_, inl, inr}
+use mathlib.Core.Logic.{inl, inr}
 use mathlib.Core.Bool.{Bool, true, false, not, _&&_, _||_}
-use mathlib.Core.List.{List, [], _∷_, _++_, append-assoc, append-nil}
+use mathlib.Core.List.{List, [], _∷_, _++_, append-nil}
 use mathlib.Core.List as list
 use native.Mathlib.Omega.{arith}
 use lib.ListN.{length, getD, take, drop, length-append, length-take, length-drop, take-append-drop}
@@ -16,16 +16,16 @@ use Rattle.document.specs.Bytes.{bytes}
 use Rattle.document.specs.Lists.{joinedUp, every, among, repeated, equal}
 use Rattle.document.specs.Limits.{width, nameBytes, textBytes, mostEvents}
 use Rattle.document.specs.Classes.{comma, eventWord, epsilonWord, isLetter, isNameByte}
-use Rattle.document.specs.Refusals.{Refusal, textTooLong, badShape, badName, nameTwice, overLimits, Answer, taken, refused, refuseIf, andThen, refusalOf, number}
+use Rattle.document.specs.Refusals.{textTooLong, badShape, badName, nameTwice, overLimits, Answer, taken, refused, andThen, refusalOf}
 use Rattle.document.specs.RefusalsLaws.{number-some}
-use Rattle.document.specs.Rows.{Part, partsFrom, parts, partOf, fields, firstRow, afterRow, rows, stray}
+use Rattle.document.specs.Rows.{partsFrom, parts, partOf, fields, firstRow, afterRow, rows, stray}
 use Rattle.document.specs.Declarations.{Declared, isName, isMark, headerRow, eventRow, eventRows, noEvents, declarations}
 use Rattle.document.specs.Printing.{rowWord, verdictWord, lineEnd, withCommas, line}
 use Rattle.words.specs.Sets.{and-left, and-right}
 use Rattle.words.specs.Names.{equal-same}
-use Rattle.words.specs.Taken.{refused-taken, taken-injective, refuse-if-taken, and-then-taken}
-use Rattle.rows.specs.RowsLaws.{split-bool, drop-here}
-use Rattle.rows.specs.SplitLaws.{partsAfter, parts-first}
+use Rattle.words.specs.Taken.{taken-injective, refuse-if-taken, and-then-taken}
+use Rattle.rows.specs.RowsLaws.{split-bool}
+use Rattle.rows.specs.SplitLaws.{parts-first}
 use Rattle.rows.specs.TextLaws.{first-part, first-within}
 use Rattle.lines.specs.Written.{Written}
 use Rattle.lines.specs.WrittenLaws.{written-then, written-as, written-within}

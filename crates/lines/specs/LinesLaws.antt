@@ -2,14 +2,12 @@
 -- Assumes nothing.
 use Prim.Native.Nat.{ℕ, zero, suc, _+_, _*_, _^_, _≤_, _<_}
 use mathlib.Core.Path.{_≡_, refl, sym, ap, _∙_}
-use mathlib.Core.Bool.{true, false}
 use mathlib.Core.List.{List, [], _∷_, _++_, append-assoc, append-nil}
 use mathlib.Core.List as list
 use native.Mathlib.Omega.{arith}
 use native.Mathlib.Numerals.{add-one}
 use lib.ListN.{length, getD, take, drop, replicate, set, length-drop, replicate-append-replicate}
 use lib.Seq.{take-suc, take-take, drop-drop, getD-take, getD-drop}
-use lib.Dec.{eqb}
 use borrow.Author.Tests.{eq-eqb, ne-eqb}
 use Rattle.document.specs.Lists.{joinedUp}
 use Rattle.document.specs.Limits.{width, reportStride}
@@ -18,8 +16,8 @@ use Rattle.document.specs.Patterns.{match}
 use Rattle.document.specs.Refusals.{Refusal, number}
 use Rattle.document.specs.Printing.{decimal, lineEnd, refusedWord, wordOf, refusedText, withCommas, valueText, line, reportLine, reportLines, refusedLine}
 use Rattle.lines.specs.Written.{Written}
-use Rattle.lines.specs.WrittenLaws.{written-none, written-byte, written-then, written-as, written-within}
-use Rattle.lines.specs.Decimals.{mostDigits, valueDigits, refusalDigits}
+use Rattle.lines.specs.WrittenLaws.{written-none, written-byte, written-then, written-within}
+use Rattle.lines.specs.Decimals.{mostDigits}
 use Rattle.lines.specs.DecimalsLaws.{decimal-usize, decimal-value, decimal-byte}
 use Rattle.lines.specs.Lines.{valuesText, refusedNumberText, refusedNumberLine, mostValue, mostValues, mostVerdict, mostRefused, mostLine, mostRefusal, lineEndBytes}
 
