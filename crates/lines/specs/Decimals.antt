@@ -23,3 +23,7 @@ valueDigits = 10
 
 abbrev pub refusalDigits : ℕ
 refusalDigits = 3
+
+-- ten to the power of it is the largest power of ten of 64 bits
+abbrev pub sureDigits : ℕ
+sureDigits = 19

@@ -10,30 +10,30 @@ use Rattle.document.specs.Classes.{zeroByte}
 use Rattle.document.specs.Printing.{decimal}
 use Rattle.lines.specs.Written.{Written}
 use Rattle.lines.specs.WrittenLaws.{written-none, written-before, written-as}
-use Rattle.lines.specs.Decimals.{withoutLast, lastDigits}
+use Rattle.lines.specs.Decimals.{withoutLast, lastDigits, sureDigits}
 use Rattle.lines.specs.DecimalsLaws.{decimal-last, decimal-some, decimal-least, decimal-most, decimal-usize}
 
 -- The loop that counts digits: there are at least n, and the power is that of n digits.
 pub record Counting (x n power : ℕ) : Type 0 where
   pub some : 0 < n
-  pub short : n ≤ 19
+  pub short : n ≤ sureDigits
   pub least : n ≤ length (decimal x)
   pub reached : power ≡ 10 ^ n
-  pub bounded : power ≤ 10 ^ 19
+  pub bounded : power ≤ 10 ^ sureDigits
 
-power-bound : (n : ℕ) → n ≤ 19 → 10 ^ n ≤ 10 ^ 19
-power-bound n h = pow-le-pow-right {n = 10} (omega arith) {i = n} {j = 19} h
+power-bound : (n : ℕ) → n ≤ sureDigits → 10 ^ n ≤ 10 ^ sureDigits
+power-bound n h = pow-le-pow-right {n = 10} (omega arith) {i = n} {j = sureDigits} h
 
 pub counting-begins : (x : ℕ) → Counting x 1 10
 counting-begins x = record { some = omega arith; short = omega arith; least = decimal-some x; reached = refl; bounded = omega arith }
 
-pub counting-fits : (x n power : ℕ) → Counting x n power → n < 19 → power * 10 ≤ 10 ^ 19
+pub counting-fits : (x n power : ℕ) → Counting x n power → n < sureDigits → power * 10 ≤ 10 ^ sureDigits
 counting-fits x n power c h =
     let e = c .reached in
     let k = power-bound (suc n) (omega arith) in
     omega arith
 
-pub counting-turn : (x n power : ℕ) → Counting x n power → n < 19 → power ≤ x → Counting x (n + 1) (power * 10)
+pub counting-turn : (x n power : ℕ) → Counting x n power → n < sureDigits → power ≤ x → Counting x (n + 1) (power * 10)
 counting-turn x n power c h l =
     let e = c .reached in
     let k = decimal-least n x (omega arith) in
@@ -53,10 +53,10 @@ counting-found x n power c h =
     let k = decimal-most n x s (omega arith) in
     omega arith
 
-pub counting-sure : (x n power : ℕ) → Counting x n power → 19 ≤ n → x < power → 19 ≡ length (decimal x)
+pub counting-sure : (x n power : ℕ) → Counting x n power → sureDigits ≤ n → x < power → sureDigits ≡ length (decimal x)
 counting-sure x n power c h l = let s = c .short in let k = counting-found x n power c l in omega arith
 
-pub counting-longest : (x n power : ℕ) → x < 2 ^ 64 → Counting x n power → 19 ≤ n → power ≤ x → 19 + 1 ≡ length (decimal x)
+pub counting-longest : (x n power : ℕ) → x < 2 ^ 64 → Counting x n power → sureDigits ≤ n → power ≤ x → sureDigits + 1 ≡ length (decimal x)
 counting-longest x n power b c h l =
     let e = c .reached in
     let s = c .short in

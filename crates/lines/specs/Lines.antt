@@ -4,11 +4,12 @@
 use Prim.Native.Nat.{ℕ, _+_, _*_}
 use mathlib.Core.List.{List, [], _∷_, _++_}
 use mathlib.Core.List as list
-use lib.ListN.{replicate}
+use lib.ListN.{length, replicate}
 use Rattle.document.specs.Limits.{width, nameBytes}
+use Rattle.document.specs.Classes.{matchWord}
 use Rattle.document.specs.Refusals.{Answer, taken, refused}
 use Rattle.document.specs.Declarations.{Declared}
-use Rattle.document.specs.Printing.{decimal, rowWord, verdictWord, refusedWord, valueText, withCommas, line}
+use Rattle.document.specs.Printing.{decimal, lineEnd, rowWord, verdictWord, refusedWord, valueText, withCommas, line}
 use Rattle.lines.specs.Decimals.{mostDigits, valueDigits, refusalDigits}
 
 -- values, each with its comma
@@ -40,13 +41,13 @@ abbrev pub mostValues : ℕ
 mostValues = width * mostValue
 
 abbrev pub mostVerdict : ℕ
-mostVerdict = 6
+mostVerdict = 1 + length matchWord
 
 abbrev pub mostRefused : ℕ
-mostRefused = 8 + refusalDigits
+mostRefused = length refusedWord + refusalDigits
 
 abbrev pub lineEndBytes : ℕ
-lineEndBytes = 2
+lineEndBytes = length lineEnd
 
 abbrev pub mostNames : ℕ
 mostNames = width * (1 + nameBytes)
@@ -59,4 +60,4 @@ abbrev pub mostRefusal : ℕ
 mostRefusal = mostRefused + lineEndBytes
 
 abbrev pub mostHeading : ℕ
-mostHeading = 11 + mostNames + lineEndBytes
+mostHeading = length rowWord + (1 + length verdictWord) + mostNames + lineEndBytes

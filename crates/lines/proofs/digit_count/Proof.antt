@@ -2,6 +2,7 @@
 -- Assumes nothing.
 use Prim.Native.Nat.{_-_}
 use native.Mathlib.Omega.{arith}
+use Rattle.lines.specs.Decimals.{sureDigits}
 use Rattle.lines.specs.DigitTurnsLaws.{Counting, counting-begins, counting-fits, counting-turn, counting-found, counting-sure, counting-longest}
 use borrow.Author.Needs.{needs}
 use Rattle.lines.proofs.digit_count.Statement.{statement}
@@ -11,7 +12,7 @@ abbrev Inv-loop : tie.InvT-loop
 Inv-loop x n₀ power₀ n power = Counting x n power
 
 abbrev μ-loop : tie.MeasureT-loop
-μ-loop x n₀ power₀ n power = 19 - n
+μ-loop x n₀ power₀ n power = sureDigits - n
 
 loop-holds : tie.Need-loop-holds Inv-loop μ-loop
 loop-holds c = counting-begins _
