@@ -136,7 +136,7 @@ fn room_refusal(rooms: Rooms, seen: usize, kept: usize, reports: usize) -> u8
     if rooms.reports < reports {
         return refusals::NO_ROOM_FOR_REPORTS;
     }
-    0
+    refusals::TAKEN
 }
 
 // What an event with this binding comes to in a session that is sound. Nothing is written.

@@ -13,20 +13,24 @@ ghost use Rattle.moves.specs.Steps.{one, isNew, stepOf, movesAt};
 ghost use Rattle.moves.specs.Ready.{Binds, Joint};
 use combos::Combination;
 
+// Transitions of a state in a property table, one an event.
 const MOST_EVENTS: usize = 16;
 
+// A number as a place.
 pub fn wide(x: u32) -> usize
     ensures { λ r. ⌜ r ≡ x ⌝ }
 {
     x as usize
 }
 
+// A byte as a number of a table.
 pub fn number(x: u8) -> u32
     ensures { λ r. ⌜ r ≡ x ⌝ }
 {
     x as u32
 }
 
+// 1 where a test holds, else 0.
 pub fn one(test: bool) -> usize
     ensures { λ r. ⌜ (r ≡ one test) × (r ≤ 1) ⌝ }
 {

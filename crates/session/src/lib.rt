@@ -55,7 +55,7 @@ pub fn step(
     ensures { λ r. ⌜ Leaves (stepBy (now (next .entry)) (now (verdicts .entry)) (known .hopeful) (known .asked) from (sessionOf n m (now (seen .entry)) (now (kept .entry))) (now (reports .entry)) e b) (sessionOf n m (now (seen .entry)) (now (kept .entry))) (now (reports .entry)) r (now (seen .exit)) (now (kept .exit)) (now (reports .exit)) ⌝ }
 {
     let o = foreseen::foresee(next, known, seen, n, kept, m, reports, from, e, b);
-    if o.refusal != 0 {
+    if o.refusal != refusals::TAKEN {
         return Answered {
             refusal: o.refusal,
             seen: n,
@@ -78,7 +78,7 @@ pub fn step(
         o,
     );
     Answered {
-        refusal: 0,
+        refusal: refusals::TAKEN,
         seen: o.seen,
         kept: o.kept,
         reported: o.reported,
@@ -165,7 +165,7 @@ pub fn start(p: Property, seen: &mut [u32], kept: &mut [u32]) -> Answered
     }
     combos::clear(seen, 0, judge::seen_room(seen) * SEEN_STRIDE);
     combos::clear(kept, 0, room * KEPT_STRIDE);
-    refused(0, 0, first)
+    refused(refusals::TAKEN, 0, first)
 }
 
 // The answer where the combination's join is not kept, and where the call is refused.
@@ -187,16 +187,16 @@ fn find_kept(verdicts: &[u8; 64], kept: &[u32], m: usize, c: Combination) -> Loo
 {
     let at = combos::place(kept, 0, KEPT_STRIDE, m, c);
     if m <= at {
-        return nothing_held(0);
+        return nothing_held(refusals::TAKEN);
     }
     let place = at * KEPT_STRIDE;
     if !combos::equal(combos::row_at(kept, place), c) {
-        return nothing_held(0);
+        return nothing_held(refusals::TAKEN);
     }
     let state = kept[place + WIDTH];
     let s = moves::wide(state);
     Looked {
-        refusal: 0,
+        refusal: refusals::TAKEN,
         held: true,
         state,
         verdict: verdicts[s],
