@@ -1,0 +1,5 @@
+pub mod Advancing
+pub mod FirstLaws
+pub mod RowLaws
+pub mod ToldLaws
+pub mod PassLaws
