@@ -3,3 +3,4 @@ pub mod FirstLaws
 pub mod RowLaws
 pub mod ToldLaws
 pub mod PassLaws
+pub mod AdvanceLaws

@@ -13,7 +13,7 @@ use lib.Dec.{T, eqb, eqb→eq}
 use lib.ListN.{length, getD, drop, length-drop}
 use borrow.Author.Tests.{ne-eqb, eqb-false}
 use Rattle.document.specs.Lists.{In, consIf}
-use Rattle.document.specs.Limits.{width, keptStride, reportStride, mostStates}
+use Rattle.document.specs.Limits.{width, keptStride, reportStride, mostEvents, mostStates}
 use Rattle.document.specs.Positions.{holds}
 use Rattle.document.specs.Combinations.{includes}
 use Rattle.document.specs.OneEvent.{Kept}
@@ -114,7 +114,7 @@ module _ (next verdicts : List ℕ) (states hopes asks e m from i o count : ℕ)
   pub passing-state : getD kept (i * keptStride + width) 0 < mostStates
   passing-state = let w = ready .within in let f = ready .moves .few in omega arith
 
-  pub passing-event : e < 16
+  pub passing-event : e < mostEvents
   passing-event = u .able .moves .event
 
   pub passing-onward : (to : ℕ) → to ≡ stepOf next (getD kept (i * keptStride + width) 0) e → to < mostStates
@@ -236,10 +236,10 @@ module _ (next verdicts : List ℕ) (states hopes asks e m from i o count : ℕ)
   passing-ends h = ends (λ k g l. absurd (omega arith))
 
   -- row i begins with another number than the binding, so with a greater one, and so do the rows after it
-  pub passing-stops : i < m → (f : Bool) → f ≡ (not (eqb (getD b 0 0) 0) && not (eqb (getD kept (i * keptStride) 0) (getD b 0 0))) → f ≡ true
+  pub passing-stops : i < m → (first : ℕ) (f : Bool) → first ≡ getD b 0 0 → f ≡ (not (eqb first 0) && not (eqb (getD kept (i * keptStride) 0) first)) → f ≡ true
       → Passes next verdicts states hopes asks e m from b kept₀ kept reports₀ reports (record { row = i; left = o; reported = count })
-  passing-stops h f q z =
-      let t = and-of (not (eqb (getD b 0 0) 0)) (not (eqb (getD kept (i * keptStride) 0) (getD b 0 0))) (so (sym q ∙ z)) in
+  passing-stops h first f p q z =
+      let t = and-of (not (eqb (getD b 0 0) 0)) (not (eqb (getD kept (i * keptStride) 0) (getD b 0 0))) (so (sym (rw p at q) ∙ z)) in
       let bound : (getD b 0 0 ≡ 0 → ⊥) = eqb-false (getD b 0 0) 0 (not-of (eqb (getD b 0 0) 0) (t .0)) in
       let other : (getD kept (i * keptStride) 0 ≡ getD b 0 0 → ⊥) =
       eqb-false (getD kept (i * keptStride) 0) (getD b 0 0) (not-of (eqb (getD kept (i * keptStride) 0) (getD b 0 0)) (t .1)) in

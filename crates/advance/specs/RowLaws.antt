@@ -18,7 +18,7 @@ use Rattle.document.specs.Positions.{holds}
 use Rattle.document.specs.Combinations.{includes}
 use Rattle.document.specs.OneEvent.{Kept}
 use Rattle.document.specs.Tables.{numbersAt}
-use Rattle.slices.specs.TestsLaws.{so, not-so}
+use Rattle.slices.specs.TestsLaws.{so, not-so, either}
 use Rattle.combos.specs.NumbersLaws.{length-numbersAt, getD-numbersAt, Included, included-begins, included-stops, included-turn}
 use Rattle.combos.specs.Writes.{Put}
 use Rattle.tables.specs.Tables.{rowAt, keptFrom}
@@ -128,6 +128,12 @@ module _ (hopes to i o : ℕ) (t : List ℕ) (f : Bool) (q : f ≡ holds hopes t
 
   pub row-goes : not f ≡ false → (c t′ : List ℕ) → c ≡ numbersAt width t (i * keptStride) → Put (o * keptStride) c to t t′ → MovedRow hopes to i o t t′ (o + 1)
   row-goes z c t′ e p = goes-on z t′ (subst (λ (x : List ℕ). Put (o * keptStride) x to t t′) e p)
+
+pub moved-before : (hopes to i o : ℕ) (t t′ : List ℕ) (r : ℕ) → MovedRow hopes to i o t t′ r → o ≤ i → r ≤ i + 1
+moved-before hopes to i o t t′ r v h = elim (either (holds hopes to)) [
+  | inl y ↦ let q = v .goes y .0 in omega arith
+  | inr y ↦ let q = v .drops y .0 in omega arith
+]
 
 pub row-stays : (i o s : ℕ) (c t t′ : List ℕ) → c ≡ numbersAt width t (i * keptStride) → s ≡ getD t (i * keptStride + width) 0 → Put (o * keptStride) c s t t′
     → Put (o * keptStride) (numbersAt width t (i * keptStride)) (getD t (i * keptStride + width) 0) t t′

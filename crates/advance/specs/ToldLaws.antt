@@ -1,12 +1,13 @@
 -- Laws of the reports of rows that move in place: they are what document 01 reports, where the binding is not new, the kept rows
 -- ascend and each is the join of the seen rows that it includes.
 -- Assumes nothing.
-use Prim.Native.Nat.{ℕ}
+use Prim.Native.Nat.{ℕ, _≤_}
 use mathlib.Core.Path.{_≡_, refl, sym, ap, ap₂, _∙_}
 use mathlib.Core.Logic.{_⊎_, inl, inr}
 use mathlib.Core.Bool.{Bool, true, false, _&&_}
 use mathlib.Core.List.{List, [], _∷_, _++_}
 use mathlib.Core.List as list
+use native.Mathlib.Omega.{arith}
 use lib.ListN.{length}
 use Rattle.document.specs.Lists.{In, consIf, keepIf}
 use Rattle.document.specs.Limits.{width}
@@ -38,6 +39,11 @@ module _ (step : ℕ → ℕ → ℕ) (e : ℕ) (b : List ℕ) (reported : Kept 
   unfolding told
   told-none [] f = refl
   told-none (k ∷ l) f = rw (f k (inl refl), told-none l (λ x i. f x (inr i)))
+
+  pub told-few : (l : List Kept) → length (told step e b reported l) ≤ length l
+  unfolding told
+  told-few [] = omega arith
+  told-few (k ∷ l) = let f = told-few l in elim (either (tells k)) [ inl h ↦ rw h (omega arith) | inr h ↦ rw h (omega arith) ]
 
 module _ (step : ℕ → ℕ → ℕ) (e : ℕ) (b : List ℕ) (seen : List (List ℕ)) (keeps : Kept → Bool) where
   pub sifted-append : (l m : List Kept) → sifted step e b seen keeps (l ++ m) ≡ sifted step e b seen keeps l ++ sifted step e b seen keeps m
