@@ -1,24 +1,22 @@
 -- The rows past the last that may include the binding; and what the pass comes to is the outcome that document 01 gives, written
 -- down.
 -- Assumes nothing.
-use Prim.Native.Nat.{ℕ, _+_, _-_, _*_, _/_, _<_, _≤_}
-use mathlib.Core.Path.{_≡_, refl, sym, ap, ap₂, subst, _∙_}
-use mathlib.Core.Logic.{inl, inr}
-use mathlib.Core.Bool.{Bool, true, false, not, _&&_}
-use mathlib.Core.List.{List, [], _∷_, _++_}
+use Prim.Native.Nat.{ℕ, _+_, _-_, _*_, _/_, _≤_}
+use mathlib.Core.Path.{_≡_, refl, sym, ap, ap₂, _∙_}
+use mathlib.Core.Bool.{Bool, false, not, _&&_}
+use mathlib.Core.List.{List, _++_}
 use mathlib.Core.List as list
 use native.Mathlib.Omega.{arith}
 use native.Mathlib.Decide.{decLt, ℕ-discrete}
 use lib.Dec.{ltb}
 use lib.ListN.{length, getD, drop, length-drop, length-map}
 use lib.Seq.{ext-getD}
-use borrow.Author.Tests.{ltb-false}
+use borrow.Author.Tests.{ltb-false, not-false}
 use Rattle.document.specs.Limits.{width, keptStride, reportStride}
 use Rattle.document.specs.OneEvent.{Kept, see, keptAfter, reportsAfter}
 use Rattle.document.specs.Tables.{seenRows, keptRows, seenRoom, keptRoom, reportRoom, keptTable}
 use Rattle.slices.specs.TestsLaws.{so, not-of, and-of}
 use Rattle.combos.specs.Writes.{ZeroIn}
-use Rattle.judge.specs.SoundLaws.{kept-room-inside}
 use Rattle.tables.specs.Tables.{keptFrom}
 use Rattle.tables.specs.TablesLaws.{kept-move, kept-two, kept-rows, length-keptFrom}
 use Rattle.tables.specs.WholeLaws.{kept-table}
@@ -28,7 +26,7 @@ use Rattle.moves.specs.ReadyLaws.{length-see}
 use Rattle.foreseen.specs.Foreseen.{counted, foreseenOf}
 use Rattle.foreseen.specs.ForeseenLaws.{refuses-none}
 use Rattle.foreseen.specs.declared.Foreseen.{Foreseen}
-use Rattle.keeping.specs.Keeping.{sifted, Keepable}
+use Rattle.keeping.specs.Keeping.{sifted}
 use Rattle.keeping.specs.SiftedLaws.{sifted-right}
 use Rattle.keeping.specs.GrownLaws.{grown-old}
 use Rattle.keeping.specs.KeptAfterLaws.{keptAfter-grown}
@@ -48,12 +46,6 @@ passable-of next states e m from b kept reports low u v = record { able = u; beg
 
 module _ (next verdicts : List ℕ) (states hopes asks e m from : ℕ) (b kept t reports reports′ : List ℕ) (r : Passed)
     (u : Passes next verdicts states hopes asks e m from b kept t reports reports′ r) where
-  pub passes-within : r .row ≤ m
-  passes-within = u .sifts .within
-
-  pub passes-fewer : r .left ≤ r .row
-  passes-fewer = u .sifts .fewer
-
   -- nothing was dropped: the rows past the last stand where they stood
   pub advanced-whole : r .left ≡ r .row → Advances next verdicts hopes asks e m from b kept t reports reports′ (record { kept = m; reported = r .reported })
   advanced-whole q =
@@ -103,14 +95,14 @@ module _ (next verdicts : List ℕ) (states hopes asks e m from : ℕ) (b kept t
 -- The outcome ----------------------------------------------------------------------------------------------------------
 
 -- what `applies` tests
-pub applies-room : (room m : ℕ) (g f : Bool) → f ≡ (not (ltb room m) && not g) → f ≡ true → (m ≤ room) × (g ≡ false)
+applies-room : (room m : ℕ) (g f : Bool) → f ≡ (not (ltb room m) && not g) → not f ≡ false → (m ≤ room) × (g ≡ false)
 applies-room room m g f q z =
-    let t = and-of (not (ltb room m)) (not g) (so (sym q ∙ z)) in
+    let t = and-of (not (ltb room m)) (not g) (so (sym q ∙ not-false f z)) in
     (ltb-false room m (not-of (ltb room m) (t .0)), not-of g (t .1))
 
-module _ (next verdicts : List ℕ) (states hopes asks e n m from : ℕ) (b seen kept reports : List ℕ) (f : Bool)
+module _ (next : List ℕ) (states e n m from : ℕ) (b seen kept reports : List ℕ) (f : Bool)
     (u : Steady next states e n m seen kept) (ob : length b ≡ width)
-    (qf : f ≡ (not (ltb (reportRoom (drop from reports)) m) && not (isNew b (seenRows n seen)))) (z : f ≡ true) where
+    (qf : f ≡ (not (ltb (reportRoom (drop from reports)) m) && not (isNew b (seenRows n seen)))) (z : not f ≡ false) where
   room : m ≤ reportRoom (drop from reports)
   room = applies-room (reportRoom (drop from reports)) m (isNew b (seenRows n seen)) f qf z .0
 
@@ -120,7 +112,7 @@ module _ (next verdicts : List ℕ) (states hopes asks e n m from : ℕ) (b seen
   pub advance-able : Advanceable next states e m from b kept reports
   advance-able = record { moves = u .moves; wide = ob; inside = u .rows .inside; order = u .rows .order; within = u .rows .within; room = room }
 
-  module _ (kept′ reports′ : List ℕ) (r : Advanced) (lk : length kept′ ≡ length kept) (lr : length reports′ ≡ length reports)
+  module _ (verdicts : List ℕ) (hopes asks : ℕ) (kept′ reports′ : List ℕ) (r : Advanced) (lk : length kept′ ≡ length kept) (lr : length reports′ ≡ length reports)
       (v : Advances next verdicts hopes asks e m from b kept kept′ reports reports′ r) where
     abbrev S : List (List ℕ)
     S = seenRows n seen

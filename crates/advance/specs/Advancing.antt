@@ -9,7 +9,7 @@ use mathlib.Core.List.{List, [], _∷_, _++_}
 use mathlib.Core.List as list
 use lib.ListN.{length, getD, drop}
 use Rattle.document.specs.Lists.{In, consIf}
-use Rattle.document.specs.Limits.{width, keptStride, mostStates}
+use Rattle.document.specs.Limits.{width, keptStride}
 use Rattle.document.specs.Positions.{holds}
 use Rattle.document.specs.Combinations.{includes}
 use Rattle.document.specs.OneEvent.{Kept}

@@ -1,21 +1,19 @@
 -- The turns of the search for the first row that may include the binding.
 -- Assumes nothing.
-use Prim.Native.Nat.{ℕ, suc, _+_, _*_, _<_, _≤_}
-use mathlib.Core.Path.{_≡_, sym, ap, subst, _∙_}
+use Prim.Native.Nat.{ℕ, _+_, _*_, _<_, _≤_}
+use mathlib.Core.Path.{_≡_, ap, subst, _∙_}
 use mathlib.Core.Logic.{inl, inr}
-use mathlib.Core.Bool.{true, false}
-use mathlib.Core.List.{List, [], _∷_}
+use mathlib.Core.List.{List}
 use native.Mathlib.Omega.{arith}
 use native.Mathlib.Nat.{zero-add}
 use native.Mathlib.Decide.{ℕ-discrete}
 use lib.Dec.{T}
-use lib.ListN.{length, getD}
+use lib.ListN.{getD}
 use Rattle.document.specs.Limits.{width, keptStride}
 use Rattle.document.specs.Combinations.{precedes}
 use Rattle.document.specs.Tables.{numbersAt}
-use Rattle.slices.specs.TestsLaws.{so}
 use Rattle.slices.specs.OrderLaws.{precedes-of, Ascends, combinations}
-use Rattle.tables.specs.Tables.{rowAt, keptFrom}
+use Rattle.tables.specs.Tables.{rowAt}
 use Rattle.tables.specs.TablesLaws.{kept-tabulated, combinations-tabulated}
 use Rattle.combos.specs.RowsLaws.{ascends-at}
 use Rattle.advance.specs.Advancing.{Rising, Begins, Advanceable}

@@ -1,7 +1,7 @@
 -- The turns of the pass over the kept rows.
 -- Assumes nothing.
 use Prim.Native.Nat.{ℕ, _+_, _-_, _*_, _/_, _<_, _≤_}
-use mathlib.Core.Path.{_≡_, refl, sym, ap, ap₂, subst, _∙_}
+use mathlib.Core.Path.{_≡_, refl, sym, ap, ap₂, _∙_}
 use mathlib.Core.Logic.{inl, inr}
 use mathlib.Core.Bool.{Bool, true, false, not, _&&_}
 use mathlib.Core.List.{List, [], _∷_, _++_}
@@ -9,7 +9,7 @@ use mathlib.Core.List as list
 use native.Mathlib.Omega.{arith}
 use native.Mathlib.Nat.{zero-add}
 use native.Mathlib.Decide.{ℕ-discrete}
-use lib.Dec.{T, eqb, eqb→eq}
+use lib.Dec.{eqb}
 use lib.ListN.{length, getD, drop, length-drop}
 use borrow.Author.Tests.{ne-eqb, eqb-false}
 use Rattle.document.specs.Lists.{In, consIf}
@@ -18,20 +18,19 @@ use Rattle.document.specs.Positions.{holds}
 use Rattle.document.specs.Combinations.{includes}
 use Rattle.document.specs.OneEvent.{Kept}
 use Rattle.document.specs.Tables.{numbersAt, reportRoom}
-use Rattle.slices.specs.TestsLaws.{so, not-so, false-of, either, not-of, and-of, or-of}
+use Rattle.slices.specs.TestsLaws.{so, either, not-of, and-of}
 use Rattle.slices.specs.ListsLaws.{map-append}
 use Rattle.combos.specs.Writes.{Put}
 use Rattle.combos.specs.RowsLaws.{tabulate-in}
 use Rattle.tables.specs.Tables.{rowAt, keptFrom}
 use Rattle.tables.specs.TablesLaws.{kept-more, kept-two, kept-tabulated, row-move}
 use Rattle.moves.specs.Steps.{stepOf, stateIn}
-use Rattle.keeping.specs.Keeping.{sifted, SettleReady, SettledRow, Siftable}
+use Rattle.keeping.specs.Keeping.{sifted, SettleReady, SettledRow}
 use Rattle.keeping.specs.SiftLaws.{settle-stays, settle-drops, settle-moves, Sifting, sifting-ready, sifting-turn}
 use Rattle.writing.specs.Writing.{reportOf}
-use Rattle.advance.specs.Advancing.{movedOn, told, Begins, ToldRow, MovedRow, Advanceable, Tells, Passable, Passes}
+use Rattle.advance.specs.Advancing.{movedOn, told, ToldRow, MovedRow, Advanceable, Tells, Passable, Passes}
 use Rattle.advance.specs.FirstLaws.{rising-of}
 use Rattle.advance.specs.ToldLaws.{told-append, told-none, sifted-append, sifted-none}
-use Rattle.advance.specs.declared.Passed.{Passed}
 
 -- Rows that do not include the binding ---------------------------------------------------------------------------------
 
@@ -91,9 +90,6 @@ module _ (next verdicts : List ℕ) (states hopes asks e m from : ℕ) (b kept r
 
 module _ (next verdicts : List ℕ) (states hopes asks e m from i o count : ℕ) (b kept₀ kept reports₀ reports : List ℕ)
     (u : Passing next verdicts states hopes asks e m from i o count b kept₀ kept reports₀ reports) (h : i < m) where
-  pub passing-inside : (i + 1) * keptStride ≤ length kept
-  passing-inside = let a = u .able .inside in let s = u .sifts .same in omega arith
-
   -- there is room for a report of each row
   pub passing-room : from + (count + 1) * keptStride ≤ length reports
   unfolding reportRoom
@@ -104,9 +100,6 @@ module _ (next verdicts : List ℕ) (states hopes asks e m from i o count : ℕ)
       let f = u .few in
       let s = u .same in
       omega arith
-
-  pub passing-before : o ≤ i
-  passing-before = u .sifts .fewer
 
   ready : SettleReady next states e i o b kept
   ready = sifting-ready next states hopes e m i o b kept₀ kept (u .sifts) h

@@ -12,7 +12,6 @@ use lib.Dec.{eqb, ltb}
 use lib.ListN.{length, getD, set, length-set}
 use lib.Seq.{getD-set-same, getD-set-other}
 use borrow.Author.Tests.{eq-eqb, ne-eqb, lt-ltb, le-ltb, not-true, not-false}
-use Rattle.document.specs.Lists.{consIf}
 use Rattle.document.specs.Limits.{width, keptStride}
 use Rattle.document.specs.Positions.{holds}
 use Rattle.document.specs.Combinations.{includes}
@@ -21,7 +20,6 @@ use Rattle.document.specs.Tables.{numbersAt}
 use Rattle.slices.specs.TestsLaws.{so, not-so, either}
 use Rattle.combos.specs.NumbersLaws.{length-numbersAt, getD-numbersAt, Included, included-begins, included-stops, included-turn}
 use Rattle.combos.specs.Writes.{Put}
-use Rattle.tables.specs.Tables.{rowAt, keptFrom}
 use Rattle.tables.specs.TablesLaws.{row-is, kept-move, kept-more}
 use Rattle.advance.specs.Advancing.{ToldRow, MovedRow, Lowered}
 

@@ -2,9 +2,9 @@
 -- ascend and each is the join of the seen rows that it includes.
 -- Assumes nothing.
 use Prim.Native.Nat.{ℕ, _≤_}
-use mathlib.Core.Path.{_≡_, refl, sym, ap, ap₂, _∙_}
-use mathlib.Core.Logic.{_⊎_, inl, inr}
-use mathlib.Core.Bool.{Bool, true, false, _&&_}
+use mathlib.Core.Path.{_≡_, refl, sym, ap, _∙_}
+use mathlib.Core.Logic.{inl, inr}
+use mathlib.Core.Bool.{Bool, false, _&&_}
 use mathlib.Core.List.{List, [], _∷_, _++_}
 use mathlib.Core.List as list
 use native.Mathlib.Omega.{arith}
@@ -12,9 +12,8 @@ use lib.ListN.{length}
 use Rattle.document.specs.Lists.{In, consIf, keepIf}
 use Rattle.document.specs.Limits.{width}
 use Rattle.document.specs.Combinations.{includes}
-use Rattle.document.specs.OneEvent.{Kept, inOrder, moves, movedFrom, moved, reportsAfter}
+use Rattle.document.specs.OneEvent.{Kept, inOrder, movedFrom, moved, reportsAfter}
 use Rattle.slices.specs.TestsLaws.{either}
-use Rattle.slices.specs.ListsLaws.{in-map, map-in}
 use Rattle.slices.specs.OrderLaws.{Ascends, ascends-distinct, combinations, in-inOrder, inOrder-ascends}
 use Rattle.tables.specs.OrderLaws.{kept-unique}
 use Rattle.moves.specs.Steps.{isNew, inPlace}

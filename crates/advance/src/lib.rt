@@ -75,15 +75,16 @@ fn first_place(kept: &[u32], m: usize, first: u32) -> usize
     low
 }
 
-// Whether a row begins with another number than the binding does: rows ascend, so none from there on includes the binding.
+// Whether a row begins with another number than the binding, which binds the first parameter: rows ascend, so none from there
+// on includes the binding. `first` is the binding's first number.
 fn lies_past(kept: &[u32], at: usize, first: u32) -> bool
     requires { ⌜ at < length (now kept) ⌝ }
     ensures { λ r. ⌜ r ≡ (not (eqb first 0) && not (eqb (getD (now (kept .entry)) at 0) first)) ⌝ }
 {
-    if first == 0 {
-        return false;
+    if first != 0 {
+        return kept[at] != first;
     }
-    kept[at] != first
+    false
 }
 
 // Whether the combination that a row begins with includes the binding, compared in place.
