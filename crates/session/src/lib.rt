@@ -107,7 +107,7 @@ pub fn step(
     }
     let a = advance::advance(next, verdicts, known, kept, m, reports, from, e, b);
     Answered {
-        refusal: 0,
+        refusal: refusals::TAKEN,
         seen: n,
         kept: a.kept,
         reported: a.reported,
