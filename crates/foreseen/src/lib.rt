@@ -114,7 +114,7 @@ fn tally(
 }
 
 // How many reports there is room for from a report number on.
-fn report_room(reports: &[u32], from: usize) -> usize
+pub fn report_room(reports: &[u32], from: usize) -> usize
     ensures { λ r. ⌜ r ≡ reportRoom (drop from (now (reports .entry))) ⌝ }
 {
     if reports.len() <= from {

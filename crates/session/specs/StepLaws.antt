@@ -1,8 +1,9 @@
--- The answer of a step: refused for want of room with nothing altered, or written down.
+-- The answer of a step: refused for want of room with nothing altered, or written down; in one pass where the event creates
+-- nothing.
 -- Assumes nothing.
 use Prim.Native.Nat.{ℕ}
 use mathlib.Core.Path.{_≡_, refl, sym, ap, _∙_}
-use mathlib.Core.Bool.{Bool, true, false, cond}
+use mathlib.Core.Bool.{Bool, true, false, cond, not, _&&_}
 use mathlib.Core.List.{List}
 use native.Mathlib.Omega.{arith}
 use lib.ListN.{length, drop}
@@ -14,11 +15,14 @@ use Rattle.document.specs.Limits.{width}
 use Rattle.document.specs.OneEvent.{see, keptAfter, reportsAfter}
 use Rattle.document.specs.Tables.{seenRows, keptRows, seenRoom, keptRoom, reportRoom}
 use Rattle.judge.specs.Sound.{sessionOf}
-use Rattle.moves.specs.Steps.{stepOf, stateIn, outcomeBy}
+use Rattle.moves.specs.Steps.{isNew, stepOf, stateIn, outcomeBy}
 use Rattle.moves.specs.Ready.{Steady}
 use Rattle.foreseen.specs.Foreseen.{roomRefusal, counted, foreseenOf}
 use Rattle.foreseen.specs.declared.Foreseen.{Foreseen}
 use Rattle.writing.specs.Writing.{writtenBy, Tellable, WrittenDown}
+use Rattle.advance.specs.Advancing.{Advances}
+use Rattle.advance.specs.AdvanceLaws.{advanced-down, advanced-foreseen}
+use Rattle.advance.specs.declared.Advanced.{Advanced}
 use Rattle.session.specs.Calls.{withinRoomsBy, stepBy, answered, Leaves}
 
 abbrev rooms : Bool → Bool → Bool → Happened → Answer Happened
@@ -88,3 +92,17 @@ module _ (next verdicts : List ℕ) (states hopes asks e n m from : ℕ) (b seen
           keptLeft = w .keptTo;
           reportsLeft = w .reportsTo;
         })
+
+-- One pass -------------------------------------------------------------------------------------------------------------
+
+module _ (next verdicts : List ℕ) (states hopes asks e n m from : ℕ) (b seen kept reports : List ℕ) (f : Bool)
+    (u : Steady next states e n m seen kept) (ob : length b ≡ width)
+    (q : f ≡ (not (ltb (reportRoom (drop from reports)) m) && not (isNew b (seenRows n seen)))) (z : not f ≡ false) where
+  pub step-advanced : (kept′ reports′ : List ℕ) (a : Advanced) → length kept′ ≡ length kept → length reports′ ≡ length reports
+      → Advances next verdicts hopes asks e m from b kept kept′ reports reports′ a
+      → Leaves (stepBy next verdicts hopes asks from (sessionOf n m seen kept) reports e b) (sessionOf n m seen kept) reports
+      (record { refusal = 0; seen = n; kept = a .kept; reported = a .reported }) seen kept′ reports′
+  step-advanced kept′ reports′ a lk lr v =
+      step-taken next verdicts states hopes asks e n m from b seen kept reports (record { refusal = 0; seen = n; kept = a .kept; reported = a .reported; fresh = false })
+      (advanced-foreseen next states e n m from b seen kept reports f u ob q z verdicts hopes asks kept′ reports′ a lk lr v) refl seen kept′ reports′
+      (advanced-down next states e n m from b seen kept reports f u ob q z verdicts hopes asks kept′ reports′ a lk lr v)

@@ -1,5 +1,5 @@
-// A session over lent tables (document 01, "One event"): start, one event, lookup. Above `judge`, `property`, `foreseen` and
-// `writing`.
+// A session over lent tables (document 01, "One event"): start, one event, lookup. Above `judge`, `property`, `foreseen`,
+// `writing` and `advance`.
 // The face: `start`, `event`, `lookup`, which take every input, judge it in the order of the refusals, and on a refusal leave
 // every lent number as it was. The interior: `work_out` and `step`, for a run that has judged its inputs.
 //
@@ -37,8 +37,8 @@ pub struct Looked {
     pub verdict: u8,
 }
 
-// One event in a session that is sound: worked out, then written down if there is room.
-pub fn step(
+// Any event: worked out, then written down if there is room.
+fn foresee_then_write(
     next: &[u8; 1024],
     verdicts: &[u8; 64],
     known: Known,
@@ -82,6 +82,35 @@ pub fn step(
         seen: o.seen,
         kept: o.kept,
         reported: o.reported,
+    }
+}
+
+// One event in a session that is sound. Where it creates nothing and cannot be refused, one pass over the kept rows does it.
+pub fn step(
+    next: &[u8; 1024],
+    verdicts: &[u8; 64],
+    known: Known,
+    seen: &mut [u32],
+    n: usize,
+    kept: &mut [u32],
+    m: usize,
+    reports: &mut [u32],
+    from: usize,
+    e: usize,
+    b: Combination,
+) -> Answered
+    requires { ⌜ Steady (now next) (known .states) e n m (now seen) (now kept) ⌝ }
+    ensures { λ r. ⌜ Leaves (stepBy (now (next .entry)) (now (verdicts .entry)) (known .hopeful) (known .asked) from (sessionOf n m (now (seen .entry)) (now (kept .entry))) (now (reports .entry)) e b) (sessionOf n m (now (seen .entry)) (now (kept .entry))) (now (reports .entry)) r (now (seen .exit)) (now (kept .exit)) (now (reports .exit)) ⌝ }
+{
+    if !advance::applies(seen, n, m, reports, from, b) {
+        return foresee_then_write(next, verdicts, known, seen, n, kept, m, reports, from, e, b);
+    }
+    let a = advance::advance(next, verdicts, known, kept, m, reports, from, e, b);
+    Answered {
+        refusal: refusals::TAKEN,
+        seen: n,
+        kept: a.kept,
+        reported: a.reported,
     }
 }
 

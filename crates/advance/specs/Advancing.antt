@@ -1,0 +1,107 @@
+-- Document 01, "One event", where the binding is empty or seen: no combination is created, so the rows that include the binding
+-- move in place, and their reports stand in the order of the kept rows. What the functions that go through the rows once need
+-- and leave. None of it speaks of the seen rows.
+-- Assumes nothing.
+use Prim.Native.Nat.{ℕ, _+_, _*_, _-_, _<_, _≤_}
+use mathlib.Core.Path.{_≡_}
+use mathlib.Core.Bool.{Bool, true, false, _&&_}
+use mathlib.Core.List.{List, [], _∷_, _++_}
+use mathlib.Core.List as list
+use lib.ListN.{length, getD, drop}
+use Rattle.document.specs.Lists.{In, consIf}
+use Rattle.document.specs.Limits.{width, keptStride}
+use Rattle.document.specs.Positions.{holds}
+use Rattle.document.specs.Combinations.{includes}
+use Rattle.document.specs.OneEvent.{Kept}
+use Rattle.document.specs.Tables.{numbersAt, reportRoom}
+use Rattle.slices.specs.OrderLaws.{Ascends, combinations}
+use Rattle.combos.specs.Writes.{Put}
+use Rattle.tables.specs.Tables.{keptFrom}
+use Rattle.moves.specs.Steps.{stepOf, stateIn}
+use Rattle.moves.specs.Ready.{Onward}
+use Rattle.keeping.specs.Keeping.{sifted, Sifted}
+use Rattle.keeping.specs.SiftLaws.{Sifting}
+use Rattle.writing.specs.Writing.{reportOf}
+use Rattle.advance.specs.declared.Passed.{Passed}
+use Rattle.advance.specs.declared.Advanced.{Advanced}
+
+-- The reports of rows that move in place -------------------------------------------------------------------------------
+
+module _ (step : ℕ → ℕ → ℕ) (e : ℕ) (b : List ℕ) where
+  unfoldable pub movedOn : Kept → Kept
+  movedOn k = record { combination = k .combination; state = step (k .state) e }
+
+  module _ (reported : Kept → Bool) where
+    unfoldable pub told : List Kept → List Kept
+    told [] = []
+    told (k ∷ l) = consIf (includes (k .combination) b && reported (movedOn k)) (movedOn k) (told l)
+
+-- The first row that may include the binding ---------------------------------------------------------------------------
+
+-- the first numbers of the rows never fall
+pub record Rising (m : ℕ) (t : List ℕ) : Type 0 where
+  pub inside : m * keptStride ≤ length t
+  pub rise : (i j : ℕ) → i < j → j < m → getD t (i * keptStride) 0 ≤ getD t (j * keptStride) 0
+
+-- the rows below r begin with a number below the first of the binding, the others do not
+pub record Begins (m : ℕ) (t : List ℕ) (first r : ℕ) : Type 0 where
+  pub within : r ≤ m
+  pub low : (k : ℕ) → k < r → getD t (k * keptStride) 0 < first
+  pub high : (k : ℕ) → r ≤ k → k < m → first ≤ getD t (k * keptStride) 0
+
+-- One row --------------------------------------------------------------------------------------------------------------
+
+-- a row that moves to a state is reported after `count` reports, if the verdict is asked for; there are r reports then
+pub record ToldRow (verdicts : List ℕ) (asks to from count : ℕ) (c t t′ : List ℕ) (r : ℕ) : Type 0 where
+  pub rows : keptFrom r t′ from ≡ keptFrom count t from ++ consIf (holds asks to) (record { combination = c; state = getD verdicts to 0 }) []
+  pub low : (k : ℕ) → k < from → getD t′ k 0 ≡ getD t k 0
+  pub high : (k : ℕ) → from + r * keptStride ≤ k → getD t′ k 0 ≡ getD t k 0
+  pub more : count ≤ r
+  pub few : r ≤ count + 1
+
+-- row i, which moves to a state, is written after o rows, or it is dropped; there are r rows then
+pub record MovedRow (hopes to i o : ℕ) (t t′ : List ℕ) (r : ℕ) : Type 0 where
+  pub goes : holds hopes to ≡ true → (r ≡ o + 1) × Put (o * keptStride) (numbersAt width t (i * keptStride)) to t t′
+  pub drops : holds hopes to ≡ false → (r ≡ o) × (t′ ≡ t)
+
+-- the numbers from a place up to the end, moved down to another place
+pub record Lowered (from to end : ℕ) (t t′ : List ℕ) (r : ℕ) : Type 0 where
+  pub stops : r ≡ to + (end - from)
+  pub low : (k : ℕ) → k < to → getD t′ k 0 ≡ getD t k 0
+  pub mid : (k : ℕ) → to ≤ k → k < to + (end - from) → getD t′ k 0 ≡ getD t (k + (from - to)) 0
+  pub high : (k : ℕ) → to + (end - from) ≤ k → getD t′ k 0 ≡ getD t k 0
+
+-- All rows -------------------------------------------------------------------------------------------------------------
+
+-- m kept rows in order, each in one of the states, and room for a report of each
+pub record Advanceable (next : List ℕ) (states e m from : ℕ) (b kept reports : List ℕ) : Type 0 where
+  pub moves : Onward next states e
+  pub wide : length b ≡ width
+  pub inside : m * keptStride ≤ length kept
+  pub order : Ascends (combinations (keptFrom m kept 0))
+  pub within : (k : Kept) → In k (keptFrom m kept 0) → k .state < states
+  pub room : m ≤ reportRoom (drop from reports)
+
+-- there are r reports, those of i rows
+pub record Tells (next verdicts : List ℕ) (asks e i from : ℕ) (b kept reports reports′ : List ℕ) (r : ℕ) : Type 0 where
+  pub rows : keptFrom r reports′ from ≡ list.map (reportOf verdicts) (told (stepOf next) e b (stateIn asks) (keptFrom i kept 0))
+  pub low : (k : ℕ) → k < from → getD reports′ k 0 ≡ getD reports k 0
+  pub high : (k : ℕ) → from + r * keptStride ≤ k → getD reports′ k 0 ≡ getD reports k 0
+
+-- the pass from a row on, where the rows before it do not include b
+pub record Passable (next : List ℕ) (states e m from : ℕ) (b kept reports : List ℕ) (low : ℕ) : Type 0 where
+  pub able : Advanceable next states e m from b kept reports
+  pub begins : Begins m kept (getD b 0 0) low
+
+-- the pass stopped before a row from which on no row includes b
+pub record Passes (next verdicts : List ℕ) (states hopes asks e m from : ℕ) (b kept kept′ reports reports′ : List ℕ) (r : Passed) : Type 0 where
+  pub sifts : Sifting next states hopes e m (r .row) (r .left) b kept kept′
+  pub rest : (seen : List (List ℕ)) → sifted (stepOf next) e b seen (stateIn hopes) (keptFrom m kept 0)
+      ≡ sifted (stepOf next) e b seen (stateIn hopes) (keptFrom (r .row) kept 0) ++ keptFrom (m - r .row) kept (r .row * keptStride)
+  pub tells : Tells next verdicts asks e m from b kept reports reports′ (r .reported)
+
+-- every row as it stays or moves, the dropped ones left out and 0 where rows stood before; and every report
+pub record Advances (next verdicts : List ℕ) (hopes asks e m from : ℕ) (b kept kept′ reports reports′ : List ℕ) (r : Advanced) : Type 0 where
+  pub sifts : Sifted next hopes e m b kept kept′ (r .kept)
+  pub zero : (k : ℕ) → r .kept * keptStride ≤ k → k < m * keptStride → getD kept′ k 0 ≡ 0
+  pub tells : Tells next verdicts asks e m from b kept reports reports′ (r .reported)
