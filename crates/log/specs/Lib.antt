@@ -1,0 +1,4 @@
+pub mod Judging
+pub mod JudgingLaws
+pub mod Stepping
+pub mod SteppingLaws
