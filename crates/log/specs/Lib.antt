@@ -2,3 +2,5 @@ pub mod Judging
 pub mod JudgingLaws
 pub mod Stepping
 pub mod SteppingLaws
+pub mod Running
+pub mod RunningLaws

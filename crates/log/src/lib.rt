@@ -5,15 +5,18 @@
 //     row(declarations, p, &mut seen, n, &mut kept, m, &mut reports, b"feed,1,7") answers as the event of the row does;
 //     run(declarations, p, &mut seen, n, &mut kept, m, &mut reports, log, at, 10) takes at most ten rows from offset `at` on.
 ghost use mathlib.Core.Path.{_≡_};
-ghost use mathlib.Core.Bool.{Bool};
+ghost use mathlib.Core.Bool.{true};
 ghost use Prim.Native.Nat.{ℕ, _≤_};
 ghost use Rattle.document.specs.Limits.{mostEvents};
+ghost use Rattle.document.specs.Session.{sound};
+ghost use Rattle.document.specs.Log.{row, run, runFrom};
 ghost use Rattle.property.specs.Meaning.{meaning};
 ghost use Rattle.judge.specs.Sound.{sessionOf};
 ghost use Rattle.session.specs.Calls.{Leaves};
 ghost use Rattle.entries.specs.Entries.{declaredAt};
 ghost use Rattle.log.specs.Judging.{sameSets, agreesBy, Judges};
 ghost use Rattle.log.specs.Stepping.{rowStepBy, RowGoes};
+ghost use Rattle.log.specs.Running.{RunLeaves, readAs, Sure, turnBy, Onward};
 use combos::KEPT_STRIDE;
 use declared::Reading;
 use moves::Known;
@@ -174,4 +177,116 @@ pub fn step_row<'a, 'b, 'c>(
         entry.event,
         values,
     )
+}
+
+// The run ---------------------------------------------------------------------------------------------------------------
+
+fn ran_to(refusal: u8, taken: usize, next: usize, seen: usize, kept: usize, reported: usize) -> Ran
+    ensures { λ r. ⌜ r ≡ record { refusal = refusal; taken = taken; next = next; seen = seen; kept = kept; reported = reported } ⌝ }
+{
+    Ran {
+        refusal,
+        taken,
+        next,
+        seen,
+        kept,
+        reported,
+    }
+}
+
+// The row at the next offset of a run that has come so far: taken, or the refusal that stops the run before it.
+fn take_row<'a, 'b, 'c>(
+    declarations: &'a [u8],
+    starts: &'b [usize; 16],
+    sizes: &'b [usize; 16],
+    sets: &'b [u8; 16],
+    events: usize,
+    next: &'b [u8; 1024],
+    verdicts: &'b [u8; 64],
+    known: Known,
+    seen: &mut [u32],
+    kept: &mut [u32],
+    reports: &mut [u32],
+    log: &'c [u8],
+    r: Ran,
+) -> Ran
+    requires { ⌜ RowGoes (now declarations) (now starts) (now sizes) events (known .parameters) (now next) (known .states) (r .seen) (r .kept) (now seen) (now kept) × Onward r (now log) (now reports) ⌝ }
+    ensures { λ x. ⌜ RunLeaves (turnBy (now (next .entry)) (now (verdicts .entry)) (known .hopeful) (known .asked) (declaredAt (now (declarations .entry)) (now (starts .entry)) (now (sizes .entry)) (now (sets .entry)) events (known .parameters)) (now (log .entry)) (r .taken) (r .next) (sessionOf (r .seen) (r .kept) (now (seen .entry)) (now (kept .entry))) (now (reports .entry)) (r .reported)) x (now (seen .exit)) (now (kept .exit)) (now (reports .exit)) ⌝ }
+{
+    let place = r.next;
+    let end = rows::row_end(log, place);
+    let a = step_row(
+        declarations,
+        starts,
+        sizes,
+        sets,
+        events,
+        next,
+        verdicts,
+        known,
+        seen,
+        r.seen,
+        kept,
+        r.kept,
+        reports,
+        r.reported * KEPT_STRIDE,
+        &log[place..end],
+    );
+    if a.refusal != refusals::TAKEN {
+        return ran_to(a.refusal, r.taken, place, r.seen, r.kept, r.reported);
+    }
+    let after = rows::next_row(log, end);
+    ran_to(refusals::TAKEN, r.taken + 1, after, a.seen, a.kept, r.reported + a.reported)
+}
+
+// Rows from an offset on, at most `budget`, into a session that is sound. What is read of the table and the declarations at
+// each row is copied out of them once.
+fn run_rows<'a, 'b>(
+    declarations: &'a [u8],
+    reading: Reading,
+    p: Property,
+    known: Known,
+    seen: &mut [u32],
+    n: usize,
+    kept: &mut [u32],
+    m: usize,
+    reports: &mut [u32],
+    log: &'b [u8],
+    at: usize,
+    budget: usize,
+) -> Ran
+    requires { ⌜ Sure (now declarations) (reading .starts) (reading .sizes) (reading .sets) (meaning p) known × (sound (meaning p) (sessionOf n m (now seen) (now kept)) ≡ true) ⌝ }
+    ensures { λ x. ⌜ RunLeaves (runFrom budget (readAs (now (declarations .entry)) (reading .starts) (reading .sizes) (reading .sets) (meaning p) known) (meaning p) (now (log .entry)) 0 at (sessionOf n m (now (seen .entry)) (now (kept .entry))) (now (reports .entry)) 0) x (now (seen .exit)) (now (kept .exit)) (now (reports .exit)) ⌝ }
+{
+    let starts = reading.starts;
+    let sizes = reading.sizes;
+    let sets = reading.sets;
+    let next = p.next;
+    let verdicts = p.verdicts;
+    let mut r = ran_to(refusals::TAKEN, 0, at, n, m, 0);
+    while r.taken < budget {
+        if log.len() <= r.next {
+            return r;
+        }
+        let after = take_row(
+            declarations,
+            &starts,
+            &sizes,
+            &sets,
+            p.events,
+            &next,
+            &verdicts,
+            known,
+            seen,
+            kept,
+            reports,
+            log,
+            r,
+        );
+        if after.refusal != refusals::TAKEN {
+            return after;
+        }
+        r = after;
+    }
+    r
 }

@@ -1,0 +1,88 @@
+// Small files, read whole into a lent slice, for the programs that read `events.csv` and `pattern.txt` (document 01, "The
+// program and its example"). What a file holds no contract can say; the count is promised to lie within the slice.
+//
+//     let mut text = [0u8; 4097];
+//     let held = files::read_whole(b"events.csv", &mut text);
+//     the file is the first held.count bytes of text, unless held.more says that the slice was too small for it.
+ghost use mathlib.Core.Path.{_≡_};
+ghost use Prim.Native.Nat.{_+_, _≤_};
+ghost use lib.ListN.{length};
+ghost use Rattle.io.specs.Counts.{Counts};
+
+// How many bytes of a file are in the slice, from its start, and whether the file has more.
+pub struct Held {
+    pub count: usize,
+    pub more: bool,
+}
+
+// What one read brought: so many bytes, none at the file's end, or a failure.
+struct Came {
+    count: usize,
+    failed: bool,
+}
+
+// "a missing file counts as empty", and so does one that cannot be read.
+fn nothing() -> Held
+    ensures { λ r. ⌜ r .count ≡ 0 ⌝ }
+{
+    Held {
+        count: 0,
+        more: false,
+    }
+}
+
+// One read, to the place after the bytes that are held.
+fn read_on(fd: i32, into: &mut [u8], held: usize) -> Came
+    requires { ⌜ held ≤ length (now into) ⌝ }
+    ensures { λ r. ⌜ held + r .count ≤ length (now (into .entry)) ⌝ }
+{
+    let got = libc::read(fd, &mut into[held..]);
+    Came {
+        count: io::count(got, &into[held..]),
+        failed: got < 0,
+    }
+}
+
+// Whether a byte is left to be read.
+fn has_more(fd: i32) -> bool {
+    let mut byte = [0u8; 1];
+    let got = libc::read(fd, &mut byte);
+    0 < got
+}
+
+// Reads until the file ends or the slice is full.
+fn read_all(fd: i32, into: &mut [u8]) -> Held
+    ensures { λ r. ⌜ Counts (r .count) (now (into .exit)) ⌝ }
+{
+    let mut held: usize = 0;
+    while held < into.len() {
+        let came = read_on(fd, into, held);
+        if came.failed {
+            return nothing();
+        }
+        if came.count == 0 {
+            return Held {
+                count: held,
+                more: false,
+            };
+        }
+        held += came.count;
+    }
+    Held {
+        count: held,
+        more: has_more(fd),
+    }
+}
+
+// The file of that name in the folder where the program runs.
+pub fn read_whole(path: &[u8], into: &mut [u8]) -> Held
+    ensures { λ r. ⌜ Counts (r .count) (now (into .exit)) ⌝ }
+{
+    let fd = os::open_read(path);
+    if fd < 0 {
+        return nothing();
+    }
+    let held = read_all(fd, into);
+    libc::close(fd);
+    held
+}

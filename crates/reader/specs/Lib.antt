@@ -1,0 +1,3 @@
+pub mod Handing
+pub mod HandingLaws
+pub mod WholeLog
