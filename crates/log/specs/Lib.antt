@@ -1,0 +1,7 @@
+pub mod Judging
+pub mod JudgingLaws
+pub mod Stepping
+pub mod SteppingLaws
+pub mod Running
+pub mod RunningLaws
+pub mod CallsLaws
