@@ -5,17 +5,21 @@ use Prim.Native.Nat.{ℕ, zero, suc, _+_, _≤_, _<_}
 use mathlib.Core.Path.{_≡_, refl, sym, ap, _∙_}
 use mathlib.Core.Logic.{inl, inr}
 use mathlib.Core.Bool.{true, false}
-use mathlib.Core.List.{List}
-use lib.ListN.{length}
+use mathlib.Core.List.{List, [], _++_, append-nil}
+use lib.ListN.{length, drop}
 use lib.Dec.{leb}
 use borrow.Author.Tests.{le-leb, lt-leb, leb-true, leb-false}
 use Rattle.document.specs.Declarations.{Declared}
 use Rattle.document.specs.Property.{Property}
+use Rattle.document.specs.Rows.{rows}
 use Rattle.document.specs.Session.{Session, leaves}
 use Rattle.document.specs.Log.{rowEvent, stepRow, rowAt, nextAt}
+use Rattle.document.specs.Printing.{rowLines}
+use Rattle.rows.specs.TextLaws.{rows-over}
+use Rattle.rows.specs.RunsOfRows.{passes-cut}
 use Rattle.slices.specs.TestsLaws.{either}
 use Rattle.runs.specs.PrintPart.{rowText, PrintedTo, nothingPrinted, linesFirst, printFrom}
-use Rattle.runs.specs.PrintLaws.{print-row}
+use Rattle.runs.specs.PrintLaws.{print-row, print-append, prints}
 use Rattle.printing.specs.Printing.{fitsRow, printRows}
 
 -- no row left, or none whose lines are sure to fit
@@ -76,6 +80,33 @@ prints-part (suc turns) d p log at n s reports room filled = elim (either (leb (
             }
       ]
 ]
+
+-- calls one after another, each from where the one before it came to, print as one
+pub parts-join : (d : Declared) (p : Property) (log : List ℕ) (at n : ℕ) (s : Session) (reports : List ℕ) (x y : PrintedTo)
+    → Part d p log at n s reports x → Part d p log (x .next) (x .number) (x .session) (x .reports) y
+    → Part d p log at n s reports (linesFirst (x .lines) y)
+parts-join d p log at n s reports x y a b =
+    let e = a .is in
+    record {
+      rows = a .rows + b .rows;
+      is =
+          ap (linesFirst (x .lines)) (b .is)
+          ∙ (λ i. linesFirst (e i .lines) (printFrom (b .rows) d p log (e i .next) (e i .number) (e i .session) (e i .reports)))
+          ∙ sym (print-append d p log (a .rows) (b .rows) at n s reports);
+    }
+
+-- and once the log's end is reached, they have printed the lines of all its rows
+pub part-whole : (d : Declared) (p : Property) (log : List ℕ) (at n : ℕ) (s : Session) (reports : List ℕ) (x : PrintedTo)
+    → Part d p log at n s reports x → length log ≤ x .next → x .lines ≡ rowLines d p n s reports (rows (drop at log))
+part-whole d p log at n s reports x a h =
+    let r = printFrom (a .rows) d p log at n s reports in
+    let v = prints d p log (a .rows) at n s reports in
+    let e = a .is in
+    let l : length log ≤ r .next = rw e at h in
+    let none : rows (drop (r .next) log) ≡ [] = rows-over log (r .next) l in
+    let cut : rows (drop at log) ≡ v .covered ++ rows (drop (r .next) log) = passes-cut (v .passes) in
+    ap (λ (y : PrintedTo). y .lines) e ∙ v .lines
+    ∙ ap (rowLines d p n s reports) (sym (append-nil (v .covered)) ∙ ap (λ l. v .covered ++ l) (sym none) ∙ sym cut)
 
 -- Declarations that say the same of each row -----------------------------------------------------------------------------
 
