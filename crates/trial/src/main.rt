@@ -2,17 +2,13 @@
 // byte for byte with those of the second program. A batch is read through one buffer and answered through another.
 ghost use Prim.Native.Nat.{_≤_};
 ghost use lib.ListN.{length};
+use batch::input;
 use batch::read;
+use batch::told::Told;
 use batch::write;
-use memory::Memory;
-
-mod declarations;
-mod input;
-mod memory;
-mod patterns;
-mod properties;
-mod tables;
-mod texts;
+use remembered::Step;
+use remembered::memory;
+use remembered::memory::Memory;
 
 // Two whole requests of the largest size.
 const INPUT_BYTES: usize = 131072;
@@ -23,20 +19,6 @@ const OUTPUT_BYTES: usize = 65536;
 const LENT_NUMBERS: usize = 65536;
 
 const TEXT_BYTES: usize = 65536;
-
-// Where an answered request ends in the input, `read::STUCK` if it is not of the form, and how many bytes of the output are
-// filled.
-pub struct Told {
-    pub next: usize,
-    pub filled: usize,
-}
-
-// The same, and what is remembered.
-struct Step {
-    next: usize,
-    filled: usize,
-    memory: Memory,
-}
 
 // What is held of the input, and how many bytes of the output are filled.
 struct Place {
@@ -51,60 +33,18 @@ struct Progress {
     memory: Memory,
 }
 
-// A request that is not of the form, or whose word is not known.
-pub(crate) fn stuck(filled: usize) -> Told {
-    Told {
-        next: read::STUCK,
-        filled,
-    }
-}
-
-// `refused`, the number of the refusal and its offset.
-pub(crate) fn refused(out: &mut [u8], filled: usize, refusal: u8, offset: usize) -> usize {
-    let begun = write::word(out, filled, b"refused");
-    let numbered = write::then_number(out, begun, refusal as usize);
-    write::then_number(out, numbered, offset)
-}
-
-// The answer of a call that remembers nothing. A word that a group of calls does not know leaves it stuck, with nothing
-// written; so does a request that is not of the form.
+// The answer of a call that remembers nothing.
 fn answer_alone(word: &[u8], s: &[u8], at: usize, out: &mut [u8], filled: usize) -> Told {
-    let on_texts = texts::answer(word, s, at, out, filled);
+    let on_texts = answer_texts::answer(word, s, at, out, filled);
     if on_texts.next != read::STUCK {
         return on_texts;
     }
-    let on_declarations = declarations::answer(word, s, at, out, filled);
-    if on_declarations.next != read::STUCK {
-        return on_declarations;
-    }
-    let on_patterns = patterns::answer(word, s, at, out, filled);
-    if on_patterns.next != read::STUCK {
-        return on_patterns;
-    }
-    properties::answer(word, s, at, out, filled)
+    answer_patterns::answer(word, s, at, out, filled)
 }
 
-// The answer of a call that changes nothing remembered.
-fn answer_only(
-    word: &[u8],
-    s: &[u8],
-    at: usize,
-    out: &mut [u8],
-    filled: usize,
-    m: Memory,
-    seen: &[u32],
-    kept: &[u32],
-    reports: &[u32],
-) -> Told {
-    let alone = answer_alone(word, s, at, out, filled);
-    if alone.next != read::STUCK {
-        return alone;
-    }
-    tables::answer(word, s, at, out, filled, m, seen, kept, reports)
-}
-
-// The answer of a request that sets what is remembered: `ok`, or its refusal.
-fn answer_set(
+// The answer of a call on what is remembered. A group whose calls change the tables is chosen by its word, and none is asked after
+// it.
+fn answer_on_memory(
     word: &[u8],
     s: &[u8],
     at: usize,
@@ -116,27 +56,10 @@ fn answer_set(
     reports: &mut [u32],
     declared: &mut [u8],
 ) -> Step {
-    let set = memory::set(word, s, at, m, seen, kept, reports, declared);
-    let memory = set.memory;
-    if set.next == read::STUCK {
-        return Step {
-            next: read::STUCK,
-            filled,
-            memory,
-        };
+    if answer_sessions::knows(word) {
+        return answer_sessions::answer(word, s, at, out, filled, m, seen, kept, reports);
     }
-    if set.refusal != refusals::TAKEN {
-        return Step {
-            next: set.next,
-            filled: refused(out, filled, set.refusal, set.offset),
-            memory,
-        };
-    }
-    Step {
-        next: set.next,
-        filled: write::word(out, filled, b"ok"),
-        memory,
-    }
+    remembered::answer(word, s, at, out, filled, m, seen, kept, reports, declared)
 }
 
 // The answer to the request at a place, by its word.
@@ -155,15 +78,15 @@ fn answer(
 {
     let end = read::word_end(s, at);
     let word = &s[at..end];
-    let only = answer_only(word, s, end, out, filled, m, seen, kept, reports);
-    if only.next != read::STUCK {
+    let alone = answer_alone(word, s, end, out, filled);
+    if alone.next != read::STUCK {
         return Step {
-            next: only.next,
-            filled: only.filled,
+            next: alone.next,
+            filled: alone.filled,
             memory: m,
         };
     }
-    answer_set(word, s, end, out, filled, m, seen, kept, reports, declared)
+    answer_on_memory(word, s, end, out, filled, m, seen, kept, reports, declared)
 }
 
 // What is held and filled after a request that ends at a place: its answer's line is ended, or it is answered `malformed`,

@@ -1,13 +1,15 @@
-//! Random sessions: few distinct values, small rooms, some damage.
+//! Random sessions: few distinct values, small rooms, damage by one number.
 
 use crate::batch::write::call;
 use crate::combination::Combination;
 use crate::limits::{KEPT_WIDTH, REPORT_WIDTH, SEEN_WIDTH, WIDTH};
+use crate::make::damage::{some, PROPERTY_BESIDE, PROPERTY_CLAUSES, SESSION_BESIDE, SESSION_CLAUSES};
 use crate::make::maker::Maker;
 use crate::make::patterns::{bare_property, damaged_property, pattern};
 use crate::make::rng::Rng;
 use crate::make::texts::{declarations, value};
 use crate::property::Property;
+use crate::session::Lent;
 
 /// A property, tables lent, a start and some calls.
 pub fn scene(maker: &mut Maker) {
@@ -19,9 +21,13 @@ pub fn scene(maker: &mut Maker) {
     let values = maker.rng.between(1, 3);
     for _ in 0..maker.rng.between(4, 24) {
         match maker.rng.below(100) {
-            0..=75 => event(maker, values),
-            76..=94 => lookup(maker, values),
-            95..=97 => damage(maker, values),
+            0..=67 => event(maker, values),
+            68..=83 => lookup(maker, values),
+            84..=86 => grow(maker, values),
+            87 => maker.send(call("digest")),
+            88 => maker.send(call("tables")),
+            89..=94 => damage(maker, values),
+            95..=96 => damage_property(maker, values),
             _ => maker.send(call("start")),
         }
     }
@@ -63,8 +69,8 @@ fn set_of(property: &Property, event: u32) -> u32 {
     property.sets.get(event as usize).copied().unwrap_or(0)
 }
 
-fn event(maker: &mut Maker, values: usize) {
-    let (rng, property) = (&mut maker.rng, &maker.state.property);
+/// An event that is for the most part declared, and values that are for the most part its set's.
+fn any_event(rng: &mut Rng, property: &Property, values: usize) -> (u32, [u32; WIDTH]) {
     let event = if rng.chance(3) { rng.odd_number() } else { rng.below(property.events.min(16) as usize) as u32 };
     let set = set_of(property, event);
     let mut numbers = [0; WIDTH];
@@ -76,7 +82,20 @@ fn event(maker: &mut Maker, values: usize) {
             *number = rng.odd_number();
         }
     }
+    (event, numbers)
+}
+
+fn event(maker: &mut Maker, values: usize) {
+    let (event, numbers) = any_event(&mut maker.rng, &maker.state.property, values);
     maker.send(call("event").number(event).numbers(&numbers));
+}
+
+/// The same event some times, with values that stay or go up by one.
+fn grow(maker: &mut Maker, values: usize) {
+    let (event, numbers) = any_event(&mut maker.rng, &maker.state.property, values);
+    let times = maker.rng.below(7) as u64;
+    let steps = numbers.map(|number| u32::from(number != 0 && number < 1 << 31 && maker.rng.chance(50)));
+    maker.send(call("grow").number(times).number(event).numbers(&numbers).numbers(&steps));
 }
 
 fn lookup(maker: &mut Maker, values: usize) {
@@ -90,32 +109,78 @@ fn lookup(maker: &mut Maker, values: usize) {
     maker.send(call("lookup").numbers(&numbers));
 }
 
-/// One number of the tables or a count changed, two calls, and then the tables as they were.
-fn damage(maker: &mut Maker, values: usize) {
-    let good = maker.state.lent.clone();
-    let (mut bad, rng) = (good.clone(), &mut maker.rng);
+/// Any number of the tables or a count changed; nothing where there is none.
+fn change_any(rng: &mut Rng, lent: &mut Lent) {
     match rng.below(6) {
-        0 => bad.seen_count = rng.odd_long(),
-        1 => bad.kept_count = rng.odd_long(),
-        2 => bad.seen_count = good.seen_count.wrapping_add(1),
-        3 => bad.kept_count = good.kept_count.saturating_sub(1),
-        4 if !bad.seen.is_empty() => {
-            let place = rng.below(bad.seen.len());
-            bad.seen[place] = rng.odd_number();
+        0 => lent.seen_count = rng.odd_long(),
+        1 => lent.kept_count = rng.odd_long(),
+        2 => lent.seen_count = lent.seen_count.wrapping_add(1),
+        3 => lent.kept_count = lent.kept_count.saturating_sub(1),
+        4 if !lent.seen.is_empty() => {
+            let place = rng.below(lent.seen.len());
+            lent.seen[place] = rng.odd_number();
         }
-        5 if !bad.kept.is_empty() => {
-            let place = rng.below(bad.kept.len());
-            bad.kept[place] = rng.odd_number();
+        5 if !lent.kept.is_empty() => {
+            let place = rng.below(lent.kept.len());
+            lent.kept[place] = rng.odd_number();
         }
         _ => {}
     }
+}
+
+/// The tables with one number changed: a clause of 12, what stands beside them, or any number.
+fn changed(rng: &mut Rng, property: &Property, lent: &Lent) -> Lent {
+    let mut bad = lent.clone();
+    let share = rng.below(10);
+    if property.check().is_err() || share < 2 {
+        change_any(rng, &mut bad);
+    } else if share < 3 {
+        some(rng, &SESSION_BESIDE, |rng, change| change(rng, property, &mut bad));
+    } else {
+        some(rng, &SESSION_CLAUSES, |rng, change| change(rng, property, &mut bad));
+    }
+    bad
+}
+
+/// One number of the tables or a count changed, some calls, and then the tables as they were.
+fn damage(maker: &mut Maker, values: usize) {
+    let good = maker.state.lent.clone();
+    let bad = changed(&mut maker.rng, &maker.state.property, &good);
     maker.send(call("seen").number(bad.seen_count).list(&bad.seen));
     maker.send(call("kept").number(bad.kept_count).list(&bad.kept));
     event(maker, values);
     lookup(maker, values);
+    if maker.rng.chance(10) {
+        grow(maker, values);
+    }
+    if maker.rng.chance(10) {
+        maker.send(call("start"));
+    }
     maker.send(call("seen").number(good.seen_count).list(&good.seen));
     maker.send(call("kept").number(good.kept_count).list(&good.kept));
     maker.send(call("reports").list(&good.reports));
+}
+
+/// One number of the property table changed: a clause of 11, or what stands beside them; some calls, and then the table as
+/// it was.
+fn damage_property(maker: &mut Maker, values: usize) {
+    let good = maker.state.property.clone();
+    if good.check().is_err() {
+        return;
+    }
+    let (mut bad, rng) = (good.clone(), &mut maker.rng);
+    if rng.chance(20) {
+        some(rng, &PROPERTY_BESIDE, |rng, change| change(rng, &mut bad));
+    } else {
+        some(rng, &PROPERTY_CLAUSES, |rng, change| change(rng, &mut bad));
+    }
+    maker.send(call("property").property(&bad));
+    event(maker, values);
+    lookup(maker, values);
+    if maker.rng.chance(30) {
+        maker.send(call("start"));
+    }
+    maker.send(call("property").property(&good));
 }
 
 /// A binding of an event with few distinct values.
