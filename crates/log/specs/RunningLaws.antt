@@ -130,7 +130,7 @@ step-room next verdicts hopes asks from s reports e b h l q =
     let c : length (o .rows) ≡ h .reported = ap (λ (u : Happened). u .reported) (taken-one (h₃ .1)) in
     omega arith
 
-row-room : (next verdicts : List ℕ) (hopes asks from : ℕ) (d : Declared) (s : Session) (reports row : List ℕ) (h : Happened) → from ≤ length reports
+pub row-room : (next verdicts : List ℕ) (hopes asks from : ℕ) (d : Declared) (s : Session) (reports row : List ℕ) (h : Happened) → from ≤ length reports
     → rowStepBy next verdicts hopes asks from d s reports row ≡ taken h → from + h .reported * reportStride ≤ length reports
 unfolding rowStepBy
 row-room next verdicts hopes asks from d s reports row h l q =

@@ -44,18 +44,24 @@ unfolding inOrder
 length-inOrder [] = refl
 length-inOrder (r ∷ l) = length-insert r (inOrder l) ∙ ap suc (length-inOrder l)
 
--- "the reports of one event are never more than the kept rows before it"
-pub reports-few : (p : Property) (s : Session) (e : ℕ) (b : List ℕ) → length (outcome p s e b .rows) ≤ length (keptOf s)
-unfolding outcome reportsAfter moved
-reports-few p s e b =
-    let test = moves width (nextState p) e b (seenOf s) in
-    let to = movedFrom width (nextState p) e b (seenOf s) in
-    let l = keepIf test (keptOf s) in
-    let h₁ = length-inOrder (keepIf (reported p) (list.map to l)) in
-    let h₂ = length-keepIf (reported p) (list.map to l) in
+-- "the reports of one event are never more than the kept rows before it", over any transitions
+pub reports-after-few : (step : ℕ → ℕ → ℕ) (e : ℕ) (b : List ℕ) (seen : List (List ℕ)) (asked : Kept → Bool) (kept : List Kept)
+    → length (reportsAfter width step e b seen asked kept) ≤ length kept
+unfolding reportsAfter moved
+reports-after-few step e b seen asked kept =
+    let test = moves width step e b seen in
+    let to = movedFrom width step e b seen in
+    let l = keepIf test kept in
+    let h₁ = length-inOrder (keepIf asked (list.map to l)) in
+    let h₂ = length-keepIf asked (list.map to l) in
     let h₃ = length-map l to in
-    let h₄ = length-keepIf test (keptOf s) in
+    let h₄ = length-keepIf test kept in
     omega arith
+
+-- and over a property's
+pub reports-few : (p : Property) (s : Session) (e : ℕ) (b : List ℕ) → length (outcome p s e b .rows) ≤ length (keptOf s)
+unfolding outcome
+reports-few p s e b = reports-after-few (nextState p) e b (seenOf s) (reported p) (keptOf s)
 
 -- How long each is -----------------------------------------------------------------------------------------------------
 
