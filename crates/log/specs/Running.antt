@@ -67,6 +67,7 @@ turnBy next verdicts hopes asks d log rows at s reports count =
 
 -- a row can be taken: the reports so far lie in the numbers lent, there is a row, and one more can be counted
 pub record Onward (r : Answered) (log reports : List ℕ) : Type 0 where
+  pub lent : length reports < 2 ^ 64
   pub fits : r .reported * reportStride ≤ length reports
   pub row : r .next < length log
   pub few : r .taken + 1 < 2 ^ 64

@@ -147,37 +147,36 @@ module _ (next verdicts : List ℕ) (hopes asks : ℕ) (d : Declared) (r : Answe
   stepped = rw (row-is log (r .next) end qe) at v
 
   -- the reports lie in the numbers lent
-  pub turn-adds : x .refusal ≡ 0 → (r .reported + x .reported) * reportStride ≤ length reports
+  pub turn-adds : x .refusal ≡ 0 → r .reported + x .reported ≤ length reports
   turn-adds z =
       let c = step-taken _ s₀ reports x seen′ kept′ reports′ stepped z in
       let j = row-room next verdicts hopes asks (r .reported * reportStride) d s₀ reports (rowAt log (r .next)) (c .happened) (o .fits) (c .is) in
       let e = c .reported in
       omega arith
 
-  pub turn-refused : (x .refusal ≡ 0 → ⊥)
-      → RunLeaves (turnBy next verdicts hopes asks d log (r .taken) (r .next) (sessionOf (r .seen) (r .kept) seen kept) reports (r .reported))
-      (record { refusal = x .refusal; taken = r .taken; next = r .next; seen = r .seen; kept = r .kept; reported = r .reported }) seen′ kept′ reports′
+  pub turn-refused : (x .refusal ≡ 0 → ⊥) → (r′ : Answered)
+      → r′ ≡ record { refusal = x .refusal; taken = r .taken; next = r .next; seen = r .seen; kept = r .kept; reported = r .reported }
+      → RunLeaves (turnBy next verdicts hopes asks d log (r .taken) (r .next) (sessionOf (r .seen) (r .kept) seen kept) reports (r .reported)) r′ seen′ kept′ reports′
   unfolding turnBy took ranTo ranOf answered leaves
-  turn-refused z = go (rowStepBy next verdicts hopes asks (r .reported * reportStride) d s₀ reports (rowAt log (r .next))) refl stepped
+  turn-refused z r′ q′ = go (rowStepBy next verdicts hopes asks (r .reported * reportStride) d s₀ reports (rowAt log (r .next))) refl stepped
     where
       go : (a : Answer Happened) → rowStepBy next verdicts hopes asks (r .reported * reportStride) d s₀ reports (rowAt log (r .next)) ≡ a → Leaves a s₀ reports x seen′ kept′ reports′
-          → RunLeaves (turnBy next verdicts hopes asks d log (r .taken) (r .next) s₀ reports (r .reported))
-          (record { refusal = x .refusal; taken = r .taken; next = r .next; seen = r .seen; kept = r .kept; reported = r .reported }) seen′ kept′ reports′
+          → RunLeaves (turnBy next verdicts hopes asks d log (r .taken) (r .next) s₀ reports (r .reported)) r′ seen′ kept′ reports′
       go (taken h) e u = absurd (z (ap (λ (y : Stepped). y .refusal) (u .says)))
       go (refused q i) e u =
           let n : x .refusal ≡ number q = ap (λ (y : Stepped). y .refusal) (u .says) in
           rw e (record {
-            says = λ j. record { refusal = n j; taken = r .taken; next = r .next; seen = r .seen; kept = r .kept; reported = r .reported };
+            says = q′ ∙ (λ j. record { refusal = n j; taken = r .taken; next = r .next; seen = r .seen; kept = r .kept; reported = r .reported });
             seenLeft = u .seenLeft;
             keptLeft = u .keptLeft;
             reportsLeft = u .reportsLeft;
           })
 
-  pub turn-taken : (nx : ℕ) → nx ≡ nextAt log end → x .refusal ≡ 0
-      → RunLeaves (turnBy next verdicts hopes asks d log (r .taken) (r .next) (sessionOf (r .seen) (r .kept) seen kept) reports (r .reported))
-      (record { refusal = 0; taken = r .taken + 1; next = nx; seen = x .seen; kept = x .kept; reported = r .reported + x .reported }) seen′ kept′ reports′
+  pub turn-taken : (nx : ℕ) → nx ≡ nextAt log end → x .refusal ≡ 0 → (r′ : Answered)
+      → r′ ≡ record { refusal = 0; taken = r .taken + 1; next = nx; seen = x .seen; kept = x .kept; reported = r .reported + x .reported }
+      → RunLeaves (turnBy next verdicts hopes asks d log (r .taken) (r .next) (sessionOf (r .seen) (r .kept) seen kept) reports (r .reported)) r′ seen′ kept′ reports′
   unfolding turnBy took ranTo ranOf
-  turn-taken nx qn z =
+  turn-taken nx qn z r′ q′ =
       let c = step-taken _ s₀ reports x seen′ kept′ reports′ stepped z in
       let h = c .happened in
       let a : nx ≡ nextAt log (r .next) = qn ∙ next-at-end log (r .next) end qe in
@@ -185,7 +184,7 @@ module _ (next verdicts : List ℕ) (hopes asks : ℕ) (d : Declared) (r : Answe
       let f = c .keptRows in
       let g = c .reported in
       rw (c .is) (record {
-        says = λ i. record { refusal = 0; taken = r .taken + 1; next = a i; seen = d i; kept = f i; reported = r .reported + g i };
+        says = q′ ∙ (λ i. record { refusal = 0; taken = r .taken + 1; next = a i; seen = d i; kept = f i; reported = r .reported + g i });
         seenLeft = c .seenLeft;
         keptLeft = c .keptLeft;
         reportsLeft = c .reportsLeft;
@@ -290,12 +289,16 @@ module _ (d : Declared) (p : Property) (range : inRange p ≡ true) (agree : agr
         }
 
 pub going-start : (d : Declared) (p : Property) (log : List ℕ) (budget at n m : ℕ) (seen kept reports : List ℕ) → sound p (sessionOf n m seen kept) ≡ true
-    → Going d p log budget (runFrom budget d p log 0 at (sessionOf n m seen kept) reports 0) (record { refusal = 0; taken = 0; next = at; seen = n; kept = m; reported = 0 }) seen kept reports
-going-start d p log budget at n m seen kept reports f = record { none = refl; few = omega arith; fits = omega arith; sound = f; left = let e : budget - 0 ≡ budget = omega arith in rw e }
+    → (r : Answered) → r ≡ record { refusal = 0; taken = 0; next = at; seen = n; kept = m; reported = 0 }
+    → Going d p log budget (runFrom budget d p log 0 at (sessionOf n m seen kept) reports 0) r seen kept reports
+going-start d p log budget at n m seen kept reports f r q =
+    let e : budget - 0 ≡ budget = omega arith in
+    subst (λ (y : Answered). Going d p log budget (runFrom budget d p log 0 at (sessionOf n m seen kept) reports 0) y seen kept reports) (sym q)
+    (record { none = refl; few = omega arith; fits = omega arith; sound = f; left = rw e })
 
 pub going-onward : (d : Declared) (p : Property) (log : List ℕ) (budget : ℕ) (whole : Ran) (r : Answered) (seen kept reports : List ℕ)
-    → Going d p log budget whole r seen kept reports → r .taken < budget → budget < 2 ^ 64 → r .next < length log → Onward r log reports
-going-onward d p log budget whole r seen kept reports g h b l = record { fits = g .fits; row = l; few = omega arith }
+    → Going d p log budget whole r seen kept reports → r .taken < budget → budget < 2 ^ 64 → r .next < length log → length reports < 2 ^ 64 → Onward r log reports
+going-onward d p log budget whole r seen kept reports g h b l k = record { lent = k; fits = g .fits; row = l; few = omega arith }
 
 -- the loop's turns: over what was worked out once
 module _ (text starts sizes sets : List ℕ) (p : Property) (k : Known) (w : Sure text starts sizes sets p k) (log : List ℕ) (budget : ℕ) (whole : Ran) (r : Answered) (seen kept reports : List ℕ)
@@ -309,3 +312,8 @@ module _ (text starts sizes sets : List ℕ) (p : Property) (k : Known) (w : Sur
 
   pub loop-taken : r′ .refusal ≡ 0 → Going (readAs text starts sizes sets p k) p log budget whole r′ seen′ kept′ reports′
   loop-taken = going-turn (readAs text starts sizes sets p k) p (w .range) (w .agree) log budget whole r seen kept reports g more l r′ seen′ kept′ reports′ turned
+
+  pub loop-counts : r′ .refusal ≡ 0 → r′ .taken ≡ r .taken + 1
+  loop-counts z =
+      let c = is-taken (readAs text starts sizes sets p k) p log (r .taken) (r .next) (sessionOf (r .seen) (r .kept) seen kept) reports (r .reported) r′ seen′ kept′ reports′ turned z in
+      ap (λ (y : Answered). y .taken) (c .row)

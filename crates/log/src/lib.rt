@@ -236,7 +236,14 @@ fn take_row<'a, 'b, 'c>(
         return ran_to(a.refusal, r.taken, place, r.seen, r.kept, r.reported);
     }
     let after = rows::next_row(log, end);
-    ran_to(refusals::TAKEN, r.taken + 1, after, a.seen, a.kept, r.reported + a.reported)
+    ran_to(
+        refusals::TAKEN,
+        r.taken + 1,
+        after,
+        a.seen,
+        a.kept,
+        r.reported + a.reported,
+    )
 }
 
 // Rows from an offset on, at most `budget`, into a session that is sound. What is read of the table and the declarations at
@@ -289,4 +296,95 @@ fn run_rows<'a, 'b>(
         r = after;
     }
     r
+}
+
+// The face --------------------------------------------------------------------------------------------------------------
+
+// One row into a session: refused 1 to 5, 11, 25, 12, then 18 to 21, then 15 to 17.
+pub fn row<'a, 'b>(
+    declarations: &'a [u8],
+    p: Property,
+    seen: &mut [u32],
+    n: usize,
+    kept: &mut [u32],
+    m: usize,
+    reports: &mut [u32],
+    bytes: &'b [u8],
+) -> Answered
+    ensures { λ r. ⌜ Leaves (row (now (declarations .entry)) (meaning p) (sessionOf n m (now (seen .entry)) (now (kept .entry))) (now (reports .entry)) (now (bytes .entry))) (sessionOf n m (now (seen .entry)) (now (kept .entry))) (now (reports .entry)) r (now (seen .exit)) (now (kept .exit)) (now (reports .exit)) ⌝ }
+{
+    let judged = judge_call(declarations, p, seen, n, kept, m);
+    if judged.refusal != refusals::TAKEN {
+        return Answered {
+            refusal: judged.refusal,
+            seen: n,
+            kept: m,
+            reported: 0,
+        };
+    }
+    let reading = judged.reading;
+    let starts = reading.starts;
+    let sizes = reading.sizes;
+    let sets = reading.sets;
+    let next = p.next;
+    let verdicts = p.verdicts;
+    let known = judged.known;
+    step_row(
+        declarations,
+        &starts,
+        &sizes,
+        &sets,
+        p.events,
+        &next,
+        &verdicts,
+        known,
+        seen,
+        n,
+        kept,
+        m,
+        reports,
+        0,
+        bytes,
+    )
+}
+
+// The run over a log held in memory, from an offset, at most `budget` rows: refused 1 to 5, 11, 25, 12, 24, or stopped by the
+// refusal of a row.
+pub fn run<'a, 'b>(
+    declarations: &'a [u8],
+    p: Property,
+    seen: &mut [u32],
+    n: usize,
+    kept: &mut [u32],
+    m: usize,
+    reports: &mut [u32],
+    log: &'b [u8],
+    at: usize,
+    budget: usize,
+) -> Ran
+    ensures { λ r. ⌜ RunLeaves (run (now (declarations .entry)) (meaning p) (sessionOf n m (now (seen .entry)) (now (kept .entry))) (now (reports .entry)) (now (log .entry)) at budget) r (now (seen .exit)) (now (kept .exit)) (now (reports .exit)) ⌝ }
+{
+    let judged = judge_call(declarations, p, seen, n, kept, m);
+    if judged.refusal != refusals::TAKEN {
+        return ran_to(judged.refusal, 0, at, n, m, 0);
+    }
+    if log.len() < at {
+        return ran_to(refusals::OFFSET_PAST_LOG, 0, at, n, m, 0);
+    }
+    let reading = judged.reading;
+    let known = judged.known;
+    run_rows(
+        declarations,
+        reading,
+        p,
+        known,
+        seen,
+        n,
+        kept,
+        m,
+        reports,
+        log,
+        at,
+        budget,
+    )
 }
