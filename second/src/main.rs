@@ -16,6 +16,7 @@ const USAGE: &str = "usage:
   second answer                        answer the batch on standard input
   second make KIND SEED COUNT          make a random batch: texts, patterns, sessions or logs
   second folders SEED COUNT DIR        make random folders for the watch program
+  second watch-each DIR                write what the program prints for each folder of DIR to its file expected
   second cases DIR                     write the chosen cases
   second recheck DIR                   answer every batch of DIR again and compare";
 
@@ -47,6 +48,7 @@ fn command(words: &[&str]) -> io::Result<bool> {
             io::stdout().lock().write_all(&batch)
         }
         ["folders", seed, count, dir] => write_folders(parsed(seed)?, parsed(count)?, Path::new(dir)),
+        ["watch-each", dir] => watch_each(Path::new(dir)),
         ["cases", dir] => cases::write(Path::new(dir)),
         ["recheck", dir] => return cases::recheck(Path::new(dir)),
         _ => Err(usage()),
@@ -64,9 +66,24 @@ fn parsed<T: std::str::FromStr>(word: &str) -> io::Result<T> {
 
 /// Prints what the watch program prints for a folder; a missing file counts as empty.
 fn watch_folder(way: Way, folder: &str) -> io::Result<()> {
-    let file = |name: &str| std::fs::read(Path::new(folder).join(name)).unwrap_or_default();
+    watch_to(way, Path::new(folder), io::stdout().lock())
+}
+
+/// Writes what the program prints for each folder of a folder to its file `expected`.
+fn watch_each(dir: &Path) -> io::Result<()> {
+    for entry in std::fs::read_dir(dir)? {
+        let folder = entry?.path();
+        if folder.is_dir() {
+            watch_to(Way::ByTables, &folder, std::fs::File::create(folder.join("expected"))?)?;
+        }
+    }
+    Ok(())
+}
+
+fn watch_to(way: Way, folder: &Path, to: impl Write) -> io::Result<()> {
+    let file = |name: &str| std::fs::read(folder.join(name)).unwrap_or_default();
     let (events, pattern, log) = (file("events.csv"), file("pattern.txt"), file("log.csv"));
-    let mut out = io::BufWriter::new(io::stdout().lock());
+    let mut out = io::BufWriter::new(to);
     watch(way, &events, &pattern, &log, &mut out)?;
     out.flush()
 }

@@ -15,10 +15,27 @@ pub struct Held {
     pub more: bool,
 }
 
+// How far a slice is filled, from its start; whether no more will come; and whether that is because a read failed.
+pub struct Filled {
+    pub held: usize,
+    pub ended: bool,
+    pub failed: bool,
+}
+
 // What one read brought: so many bytes, none at the file's end, or a failure.
 struct Came {
     count: usize,
     failed: bool,
+}
+
+// A descriptor of the file of that name in the folder where the program runs, or -1. That a file is missing is no failure; any
+// other is said on standard error.
+pub fn open(path: &[u8]) -> i32 {
+    let fd = os::open_read(path);
+    if fd < 0 && os::errno() != libc::ENOENT {
+        os::fail(path);
+    }
+    fd
 }
 
 // "a missing file counts as empty", and so does one that cannot be read.
@@ -43,6 +60,37 @@ fn read_on(fd: i32, into: &mut [u8], held: usize) -> Came
     }
 }
 
+// Reads on after the bytes that are held, until the slice is full, the file ends or a read fails.
+pub fn fill(fd: i32, into: &mut [u8], front: usize) -> Filled
+    requires { ⌜ front ≤ length (now into) ⌝ }
+    ensures { λ r. ⌜ Counts (r .held) (now (into .exit)) ⌝ }
+{
+    let mut held = front;
+    while held < into.len() {
+        let came = read_on(fd, into, held);
+        if came.failed {
+            return Filled {
+                held,
+                ended: true,
+                failed: true,
+            };
+        }
+        if came.count == 0 {
+            return Filled {
+                held,
+                ended: true,
+                failed: false,
+            };
+        }
+        held += came.count;
+    }
+    Filled {
+        held,
+        ended: false,
+        failed: false,
+    }
+}
+
 // Whether a byte is left to be read.
 fn has_more(fd: i32) -> bool {
     let mut byte = [0u8; 1];
@@ -50,39 +98,23 @@ fn has_more(fd: i32) -> bool {
     0 < got
 }
 
-// Reads until the file ends or the slice is full.
-fn read_all(fd: i32, into: &mut [u8]) -> Held
-    ensures { λ r. ⌜ Counts (r .count) (now (into .exit)) ⌝ }
-{
-    let mut held: usize = 0;
-    while held < into.len() {
-        let came = read_on(fd, into, held);
-        if came.failed {
-            return nothing();
-        }
-        if came.count == 0 {
-            return Held {
-                count: held,
-                more: false,
-            };
-        }
-        held += came.count;
-    }
-    Held {
-        count: held,
-        more: has_more(fd),
-    }
-}
-
-// The file of that name in the folder where the program runs.
+// The file of that name in the folder where the program runs. One that is there and cannot be read is said on standard error.
 pub fn read_whole(path: &[u8], into: &mut [u8]) -> Held
     ensures { λ r. ⌜ Counts (r .count) (now (into .exit)) ⌝ }
 {
-    let fd = os::open_read(path);
+    let fd = open(path);
     if fd < 0 {
         return nothing();
     }
-    let held = read_all(fd, into);
+    let filled = fill(fd, into, 0);
+    if filled.failed {
+        os::fail(path);
+        return nothing();
+    }
+    let more = has_more(fd);
     libc::close(fd);
-    held
+    Held {
+        count: filled.held,
+        more,
+    }
 }

@@ -8,6 +8,11 @@ use crate::make::patterns::{any_pattern, pattern};
 use crate::make::rng::Rng;
 use crate::make::texts::{any_declarations, any_row, declarations, log, Declared};
 
+/// The program reads a log through one buffer of some size. Places around multiples of this many bytes are where it may cut.
+const BUFFER: usize = 65_536;
+/// The most bytes of a text that is taken.
+const TEXT_LIMIT: usize = 4_096;
+
 /// The three files of a folder; a missing one is not written.
 pub struct Folder {
     pub events: Option<Vec<u8>>,
@@ -24,6 +29,10 @@ enum Size {
     Wide,
     /// Thousands of rows.
     Long,
+    /// As many rows as a whole season has.
+    Season,
+    /// Rows that end, or hold a CR or LF, where a buffer may end, and rows longer than a buffer.
+    Edges,
 }
 
 /// Writes folders DIR/0001, DIR/0002, ...
@@ -53,12 +62,16 @@ pub fn folder(rng: &mut Rng, large: bool) -> Folder {
     let size = match rng.below(100) {
         0..=5 if large => Size::Wide,
         6..=9 if large => Size::Long,
+        10 if large && rng.chance(30) => Size::Season,
+        11..=18 if large => Size::Edges,
         _ => Size::Small,
     };
     let damage = size == Size::Small;
     let events = if damage && rng.chance(6) { any_declarations(rng) } else { text };
     let pattern = if damage && rng.chance(15) { any_pattern(rng, &declared) } else { pattern(rng, &declared) };
-    let log = whole_log(rng, &declared, size);
+    let events = if damage && rng.chance(1) { padded(rng, events, b'x') } else { events };
+    let pattern = if rng.chance(2) { padded(rng, pattern, b' ') } else { pattern };
+    let log = if size == Size::Edges { edges(rng, &declared) } else { whole_log(rng, &declared, size) };
     let missing = |rng: &mut Rng, bytes| if damage && rng.chance(1) { None } else { Some(bytes) };
     Folder { events: missing(rng, events), pattern: missing(rng, pattern), log: missing(rng, log) }
 }
@@ -75,6 +88,7 @@ fn whole_log(rng: &mut Rng, declared: &Declared, size: Size) -> Vec<u8> {
         Size::Small => (rng.below(30), rng.between(1, 3)),
         Size::Wide => (rng.between(500, 4000), *rng.pick(&[8, 60, 400, 5000])),
         Size::Long => (rng.between(5_000, 30_000), rng.between(2, 40)),
+        Size::Season | Size::Edges => (100_000, rng.between(2, 12)),
     };
     if rng.chance(1) {
         // A row longer than any buffer.
@@ -90,4 +104,69 @@ fn whole_log(rng: &mut Rng, declared: &Declared, size: Size) -> Vec<u8> {
         }
     }
     text
+}
+
+/// A text filled up to about the limit, or far past it.
+fn padded(rng: &mut Rng, mut text: Vec<u8>, with: u8) -> Vec<u8> {
+    let length = *rng.pick(&[TEXT_LIMIT - 1, TEXT_LIMIT, TEXT_LIMIT, TEXT_LIMIT + 1, TEXT_LIMIT + 2, 10_000, 70_000]);
+    text.resize(length, with);
+    text
+}
+
+/// A log whose rows end just before, at or after places where a buffer may end. A row may be longer than a buffer, and hold CR and LF
+/// there; the header too, now and then.
+fn edges(rng: &mut Rng, declared: &Declared) -> Vec<u8> {
+    let mut text = declared.header().into_bytes();
+    if rng.chance(5) {
+        let end = near_a_buffer(rng, text.len());
+        fill(rng, &mut text, end);
+    }
+    text.extend(b"\r\n");
+    let values = rng.between(1, 4);
+    for _ in 0..rng.between(1, 4) {
+        for _ in 0..*rng.pick(&[0, 1, 20, 3_000, 6_000]) {
+            text.extend(any_row(rng, declared, values));
+            text.extend(b"\r\n");
+        }
+        if rng.chance(80) {
+            let end = near_a_buffer(rng, text.len());
+            if rng.chance(70) && end > text.len() + 300 {
+                rows_up_to(rng, declared, end - 200, &mut text);
+            }
+            fill(rng, &mut text, end);
+        } else {
+            let row = *rng.pick(&[127, 128, 129, 130, 131]);
+            text.extend(vec![b'x'; row]);
+        }
+        text.extend(*rng.pick(&[&b"\r\n"[..], b"\r\n", b"\r\n", b"\r\r\n", b"\n", b"\r", b""]));
+    }
+    if rng.chance(70) {
+        text.extend(log(rng, declared, 5, values));
+    }
+    text
+}
+
+/// A place a few bytes before or after a multiple of a buffer's size, past `from`.
+fn near_a_buffer(rng: &mut Rng, from: usize) -> usize {
+    let place = (from / BUFFER + rng.between(1, 3)) * BUFFER + 4 - rng.below(9);
+    place.max(from)
+}
+
+/// Rows up to about a place.
+fn rows_up_to(rng: &mut Rng, declared: &Declared, end: usize, text: &mut Vec<u8>) {
+    while text.len() < end {
+        text.extend(any_row(rng, declared, 3));
+        text.extend(b"\r\n");
+    }
+}
+
+/// One row's bytes up to a place; a CR or LF may stand at its last bytes.
+fn fill(rng: &mut Rng, text: &mut Vec<u8>, end: usize) {
+    let from = text.len();
+    text.resize(end.max(from), b'x');
+    for place in (from.max(end.saturating_sub(3))..end).rev() {
+        if rng.chance(20) {
+            text[place] = *rng.pick(b"\r\r\n,");
+        }
+    }
 }

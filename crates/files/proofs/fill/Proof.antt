@@ -1,18 +1,18 @@
--- `files::read_all` is safe and ends: each turn brings a byte at least, and what is held lies within the slice.
+-- `files::fill` is safe and ends: each turn brings a byte at least, and what is held lies within the slice.
 -- Assumes nothing.
 use Prim.Native.Nat.{_-_, _≤_}
 use mathlib.Core.Path.{_≡_}
 use lib.ListN.{length}
 use borrow.Author.Needs.{needs}
 use Rattle.files.specs.Held.{counts-held}
-use Rattle.files.proofs.read_all.Statement.{statement}
-use Rattle.files.proofs.read_all.Tie as tie
+use Rattle.files.proofs.fill.Statement.{statement}
+use Rattle.files.proofs.fill.Tie as tie
 
 abbrev Inv-loop : tie.InvT-loop
-Inv-loop fd into₀ held₀ into held = (length into ≡ length into₀) × (held ≤ length into)
+Inv-loop fd into₀ front held₀ into held = (length into ≡ length into₀) × (held ≤ length into)
 
 abbrev μ-loop : tie.MeasureT-loop
-μ-loop fd into₀ held₀ into held = length into₀ - held
+μ-loop fd into₀ front held₀ into held = length into₀ - held
 
 loop-holds : tie.Need-loop-holds Inv-loop μ-loop
 loop-holds c = search needs
@@ -20,14 +20,11 @@ loop-holds c = search needs
 read-on-requires : tie.Need-read-on-requires Inv-loop μ-loop
 read-on-requires c κs = search needs
 
-nothing-requires : tie.Need-nothing-requires Inv-loop μ-loop
-nothing-requires c κs = search needs
-
 same-length : tie.Need-same-length Inv-loop μ-loop
 same-length c = search needs
 
 returns : tie.Need-returns Inv-loop μ-loop
-returns c = search (needs, counts-held)
+returns c = counts-held _ _ (search needs)
 
 same-length-2 : tie.Need-same-length-2 Inv-loop μ-loop
 same-length-2 c = search needs
@@ -44,24 +41,20 @@ loop-less c = search needs
 loop-again : tie.Need-loop-again Inv-loop μ-loop
 loop-again c = search needs
 
-has-more-requires : tie.Need-has-more-requires Inv-loop μ-loop
-has-more-requires c κs = search needs
-
 same-length-3 : tie.Need-same-length-3 Inv-loop μ-loop
 same-length-3 c = search needs
 
 returns-3 : tie.Need-returns-3 Inv-loop μ-loop
-returns-3 c = search (needs, counts-held)
+returns-3 c = counts-held _ _ (search needs)
 
-pub read-all-spec : {M : Type 1} → statement M
-read-all-spec =
+pub fill-spec : {M : Type 1} → statement M
+fill-spec =
     tie.close
     (tie.spec
     Inv-loop
     μ-loop
     loop-holds
     read-on-requires
-    nothing-requires
     same-length
     returns
     same-length-2
@@ -69,6 +62,5 @@ read-all-spec =
     add-held
     loop-less
     loop-again
-    has-more-requires
     same-length-3
     returns-3)
