@@ -1,9 +1,26 @@
-// Reads requests on logs (docs/CASES.md): `row`, `run` and `watch`, whose items are texts and numbers. They are not answered yet.
-// An answer to `row` is told by `answer_sessions::tell`; one to `lines`, whose only item is a long, needs the reports of the last
-// row beside what is remembered today. For the trial program alone.
-ghost use Prim.Native.Nat.{_≤_};
+// Answers the calls on logs (docs/CASES.md, "Calls on what is remembered"): `row`, `run` and `lines`; `watch` is read, and not
+// answered yet. Of each table the numbers that are remembered as lent are lent to the library; the reports of the last row are
+// copied, for the lines of it that may be asked for. For the trial program alone.
+ghost use Prim.Native.Nat.{_*_, _≤_};
 ghost use lib.ListN.{length};
+use answer_sessions::counted;
+use answer_sessions::unanswered;
+use answer_sessions::within;
 use batch::read;
+use batch::write;
+use log::Ran;
+use remembered::Step;
+use remembered::memory;
+use remembered::memory::Memory;
+use remembered::tables;
+use session::Answered;
+
+// Room for the lines of a row that are printed: those of 3,005 reports, more than any chosen batch has.
+const LINES_BYTES: usize = 216360;
+
+const MOST_PARAMETERS: usize = 4;
+
+const REPORT_STRIDE: usize = 5;
 
 // `row` bytes: the row as a part of the buffer, and the place after the request.
 pub struct RowAsked {
@@ -29,15 +46,10 @@ pub struct WatchAsked {
     pub next: usize,
 }
 
-// Whether a word is that of a call on logs that is read here.
-pub fn knows(word: &[u8]) -> bool {
-    if rows::same(word, b"row") {
-        return true;
-    }
-    if rows::same(word, b"run") {
-        return true;
-    }
-    rows::same(word, b"watch")
+// `lines` NUMBER: the number of the row, and the place after the request.
+struct LinesAsked {
+    number: usize,
+    next: usize,
 }
 
 // The items of `row`, which begin at a place.
@@ -81,4 +93,278 @@ pub fn watch_asked(s: &[u8], at: usize) -> WatchAsked
         log,
         next: read::line_end(s, log.next),
     }
+}
+
+// The items of `lines`, which begin at a place.
+fn lines_asked(s: &[u8], at: usize) -> LinesAsked {
+    let number = read::long(s, at);
+    LinesAsked {
+        number: number.value,
+        next: read::line_end(s, number.next),
+    }
+}
+
+fn wide(n: u8) -> usize {
+    n as usize
+}
+
+// The library's calls on the lent numbers ---------------------------------------------------------------------------------
+
+fn row_in(
+    m: Memory,
+    seen: &mut [u32],
+    kept: &mut [u32],
+    reports: &mut [u32],
+    declared: &[u8],
+    row: &[u8],
+) -> Answered {
+    let of_seen = within(m.seen, seen.len());
+    let of_kept = within(m.kept, kept.len());
+    let of_reports = within(m.reports, reports.len());
+    let p = m.property;
+    log::row(
+        memory::first(declared, m.declared),
+        p,
+        &mut seen[0..of_seen],
+        m.seen_count,
+        &mut kept[0..of_kept],
+        m.kept_count,
+        &mut reports[0..of_reports],
+        row,
+    )
+}
+
+fn run_in(
+    m: Memory,
+    seen: &mut [u32],
+    kept: &mut [u32],
+    reports: &mut [u32],
+    declared: &[u8],
+    log: &[u8],
+    offset: usize,
+    budget: usize,
+) -> Ran {
+    let of_seen = within(m.seen, seen.len());
+    let of_kept = within(m.kept, kept.len());
+    let of_reports = within(m.reports, reports.len());
+    let p = m.property;
+    log::run(
+        memory::first(declared, m.declared),
+        p,
+        &mut seen[0..of_seen],
+        m.seen_count,
+        &mut kept[0..of_kept],
+        m.kept_count,
+        &mut reports[0..of_reports],
+        log,
+        offset,
+        budget,
+    )
+}
+
+// Rows --------------------------------------------------------------------------------------------------------------------
+
+// What is remembered, with what a row was answered.
+fn with_row(m: Memory, a: Answered) -> Memory {
+    let mut memory = m;
+    memory.row_refusal = a.refusal;
+    memory.row_reports = a.reported;
+    memory.row_parameters = m.property.parameters;
+    memory
+}
+
+// Puts numbers at the start of others; what there is no room for is left out.
+fn copy(from: &[u32], to: &mut [u32]) {
+    let mut i: usize = 0;
+    while i < from.len() && i < to.len() {
+        to[i] = from[i];
+        i += 1;
+    }
+}
+
+// A row, after which its reports are copied.
+fn row_copied(
+    m: Memory,
+    seen: &mut [u32],
+    kept: &mut [u32],
+    reports: &mut [u32],
+    declared: &[u8],
+    row: &[u8],
+    of_row: &mut [u32],
+) -> Answered {
+    let a = row_in(m, seen, kept, reports, declared, row);
+    copy(reports, of_row);
+    a
+}
+
+// `row` bytes
+fn row(
+    s: &[u8],
+    at: usize,
+    out: &mut [u8],
+    filled: usize,
+    m: Memory,
+    seen: &mut [u32],
+    kept: &mut [u32],
+    reports: &mut [u32],
+    declared: &[u8],
+    of_row: &mut [u32],
+) -> Step {
+    let asked = row_asked(s, at);
+    if asked.next == read::STUCK {
+        return unanswered(filled, m);
+    }
+    let start = asked.start;
+    let end = asked.end;
+    let a = row_copied(m, seen, kept, reports, declared, &s[start..end], of_row);
+    let memory = with_row(m, a);
+    answer_sessions::tell(asked.next, out, filled, memory, a, seen, kept, reports)
+}
+
+// Runs --------------------------------------------------------------------------------------------------------------------
+
+// `run`, rows taken, next offset, number of reports, refusal or 0.
+fn ran_told(out: &mut [u8], filled: usize, r: Ran) -> usize {
+    let begun = write::word(out, filled, b"run");
+    let of_rows = write::then_number(out, begun, r.taken);
+    let of_next = write::then_number(out, of_rows, r.next);
+    let of_reports = write::then_number(out, of_next, r.reported);
+    write::then_number(out, of_reports, wide(r.refusal))
+}
+
+// `run` OFFSET BUDGET log. What the rows before a refused one did stands, so the counts answered are remembered.
+fn run(
+    s: &[u8],
+    at: usize,
+    out: &mut [u8],
+    filled: usize,
+    m: Memory,
+    seen: &mut [u32],
+    kept: &mut [u32],
+    reports: &mut [u32],
+    declared: &[u8],
+) -> Step {
+    let asked = run_asked(s, at);
+    if asked.next == read::STUCK {
+        return unanswered(filled, m);
+    }
+    let start = asked.start;
+    let end = asked.end;
+    let r = run_in(
+        m,
+        seen,
+        kept,
+        reports,
+        declared,
+        &s[start..end],
+        asked.offset,
+        asked.budget,
+    );
+    let memory = counted(m, r.seen, r.kept);
+    let begun = ran_told(out, filled, r);
+    Step {
+        next: asked.next,
+        filled: tables::then_tables(out, begun, memory, seen, kept, reports),
+        memory,
+    }
+}
+
+// Lines -------------------------------------------------------------------------------------------------------------------
+
+// Whether a refusal is one of a row, 15 to 21, of which the watch program prints a line.
+fn is_of_row(refusal: u8) -> bool {
+    if refusal < refusals::NO_ROOM_FOR_SEEN {
+        return false;
+    }
+    refusal <= refusals::WRONG_FIELDS
+}
+
+// Writes the line of the last row, which was refused, into a text, and answers how many bytes it has; 0 if there is no room.
+fn put_refusal(m: Memory, number: usize, text: &mut [u8]) -> usize {
+    if MOST_PARAMETERS < m.row_parameters {
+        return 0;
+    }
+    if text.len() < lines::MOST_LINE {
+        return 0;
+    }
+    lines::put_refused(text, 0, m.row_parameters, number, m.row_refusal)
+}
+
+// Writes a line for each report of the last row. One that no line is printed of has none.
+fn put_reports(m: Memory, of_row: &[u32], number: usize, text: &mut [u8]) -> usize {
+    if MOST_PARAMETERS < m.row_parameters {
+        return 0;
+    }
+    if of_row.len() / REPORT_STRIDE < m.row_reports {
+        return 0;
+    }
+    if text.len() / lines::MOST_LINE < m.row_reports {
+        return 0;
+    }
+    lines::put_reports(text, 0, m.row_parameters, number, of_row, m.row_reports)
+}
+
+fn put_lines(m: Memory, of_row: &[u32], number: usize, text: &mut [u8]) -> usize {
+    if is_of_row(m.row_refusal) {
+        return put_refusal(m, number, text);
+    }
+    put_reports(m, of_row, number, text)
+}
+
+// `lines` NUMBER
+fn lines_of_row(
+    s: &[u8],
+    at: usize,
+    out: &mut [u8],
+    filled: usize,
+    m: Memory,
+    of_row: &[u32],
+) -> Step {
+    let asked = lines_asked(s, at);
+    if asked.next == read::STUCK {
+        return unanswered(filled, m);
+    }
+    let mut text = [0u8; LINES_BYTES];
+    let size = put_lines(m, of_row, asked.number, &mut text);
+    Step {
+        next: asked.next,
+        filled: write::bytes(out, filled, memory::first(&text, size)),
+        memory: m,
+    }
+}
+
+// The calls ---------------------------------------------------------------------------------------------------------------
+
+// Whether a word is that of one of these calls.
+pub fn knows(word: &[u8]) -> bool {
+    if rows::same(word, b"row") {
+        return true;
+    }
+    if rows::same(word, b"run") {
+        return true;
+    }
+    rows::same(word, b"lines")
+}
+
+// The answer to the call of a word that is known, whose items begin at a place. `of_row` holds the reports of the last row.
+pub fn answer(
+    word: &[u8],
+    s: &[u8],
+    at: usize,
+    out: &mut [u8],
+    filled: usize,
+    m: Memory,
+    seen: &mut [u32],
+    kept: &mut [u32],
+    reports: &mut [u32],
+    declared: &[u8],
+    of_row: &mut [u32],
+) -> Step {
+    if rows::same(word, b"row") {
+        return row(s, at, out, filled, m, seen, kept, reports, declared, of_row);
+    }
+    if rows::same(word, b"run") {
+        return run(s, at, out, filled, m, seen, kept, reports, declared);
+    }
+    lines_of_row(s, at, out, filled, m, of_row)
 }

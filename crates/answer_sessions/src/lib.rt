@@ -67,7 +67,7 @@ fn stepped(v: Combination, steps: Combination) -> Combination {
 }
 
 // What is remembered, with other counts.
-fn counted(m: Memory, seen: usize, kept: usize) -> Memory {
+pub fn counted(m: Memory, seen: usize, kept: usize) -> Memory {
     let mut memory = m;
     memory.seen_count = seen;
     memory.kept_count = kept;

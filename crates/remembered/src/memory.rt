@@ -5,7 +5,8 @@ ghost use lib.ListN.{length};
 use batch::read;
 use property::Property;
 
-// A property, how many bytes of declarations and numbers of each table are lent, and the two counts of the tables.
+// A property, how many bytes of declarations and numbers of each table are lent, and the two counts of the tables; and of the
+// last row its refusal, its reports, and the parameters that its lines have. No row yet is as one that reports nothing.
 pub struct Memory {
     pub property: Property,
     pub declared: usize,
@@ -14,6 +15,9 @@ pub struct Memory {
     pub reports: usize,
     pub seen_count: usize,
     pub kept_count: usize,
+    pub row_refusal: u8,
+    pub row_reports: usize,
+    pub row_parameters: usize,
 }
 
 // What is remembered after a request, the place after it, and its refusal with its offset.
@@ -52,6 +56,9 @@ pub fn nothing() -> Memory {
         reports: 0,
         seen_count: 0,
         kept_count: 0,
+        row_refusal: refusals::TAKEN,
+        row_reports: 0,
+        row_parameters: 0,
     }
 }
 
@@ -85,7 +92,7 @@ fn set_declared(s: &[u8], at: usize, m: Memory, declared: &mut [u8]) -> Remember
 }
 
 // The first bytes of a text, so many of them.
-fn first(text: &[u8], count: usize) -> &[u8] {
+pub fn first(text: &[u8], count: usize) -> &[u8] {
     if text.len() < count {
         return &text[0..0];
     }

@@ -43,7 +43,7 @@ fn answer_alone(word: &[u8], s: &[u8], at: usize, out: &mut [u8], filled: usize)
 }
 
 // The answer of a call on what is remembered. A group whose calls change the tables is chosen by its word, and none is asked after
-// it.
+// it. `of_row` holds the reports of the last row.
 fn answer_on_memory(
     word: &[u8],
     s: &[u8],
@@ -55,9 +55,25 @@ fn answer_on_memory(
     kept: &mut [u32],
     reports: &mut [u32],
     declared: &mut [u8],
+    of_row: &mut [u32],
 ) -> Step {
     if answer_sessions::knows(word) {
         return answer_sessions::answer(word, s, at, out, filled, m, seen, kept, reports);
+    }
+    if answer_logs::knows(word) {
+        return answer_logs::answer(
+            word,
+            s,
+            at,
+            out,
+            filled,
+            m,
+            seen,
+            kept,
+            reports,
+            declared,
+            of_row,
+        );
     }
     remembered::answer(word, s, at, out, filled, m, seen, kept, reports, declared)
 }
@@ -73,6 +89,7 @@ fn answer(
     kept: &mut [u32],
     reports: &mut [u32],
     declared: &mut [u8],
+    of_row: &mut [u32],
 ) -> Step
     requires { ⌜ at ≤ length (now s) ⌝ }
 {
@@ -86,7 +103,19 @@ fn answer(
             memory: m,
         };
     }
-    answer_on_memory(word, s, end, out, filled, m, seen, kept, reports, declared)
+    answer_on_memory(
+        word,
+        s,
+        end,
+        out,
+        filled,
+        m,
+        seen,
+        kept,
+        reports,
+        declared,
+        of_row,
+    )
 }
 
 // What is held and filled after a request that ends at a place: its answer's line is ended, or it is answered `malformed`,
@@ -130,6 +159,7 @@ fn turn(
     kept: &mut [u32],
     reports: &mut [u32],
     declared: &mut [u8],
+    of_row: &mut [u32],
 ) -> Progress
     requires { ⌜ (p .window .at ≤ p .window .held) × (p .window .held ≤ length (now input)) ⌝ }
     ensures { λ r. ⌜ (r .window .at ≤ r .window .held) × (r .window .held ≤ length (now (input .entry))) ⌝ }
@@ -147,6 +177,7 @@ fn turn(
         kept,
         reports,
         declared,
+        of_row,
     );
     let memory = a.memory;
     let place = onward(input, out, w, a.next, a.filled);
@@ -190,11 +221,12 @@ fn answer_all(
     kept: &mut [u32],
     reports: &mut [u32],
     declared: &mut [u8],
+    of_row: &mut [u32],
 ) {
     let mut p = begun(input);
     let mut turns = u64::MAX;
     while 0 < turns && is_left(p.window) {
-        let more = turn(input, out, p, seen, kept, reports, declared);
+        let more = turn(input, out, p, seen, kept, reports, declared, of_row);
         p = more;
         turns -= 1;
     }
@@ -208,6 +240,7 @@ fn main() {
     let mut kept = [0u32; LENT_NUMBERS];
     let mut reports = [0u32; LENT_NUMBERS];
     let mut declared = [0u8; TEXT_BYTES];
+    let mut of_row = [0u32; LENT_NUMBERS];
     answer_all(
         &mut input,
         &mut out,
@@ -215,5 +248,6 @@ fn main() {
         &mut kept,
         &mut reports,
         &mut declared,
+        &mut of_row,
     );
 }

@@ -8,10 +8,10 @@ use Rattle.trial.proofs.answer_all.Statement.{statement}
 use Rattle.trial.proofs.answer_all.Tie as tie
 
 abbrev Inv-loop : tie.InvT-loop
-Inv-loop input₀ out₀ seen₀ kept₀ reports₀ declared₀ p₀ turns₀ input out seen kept reports declared p turns = (length input ≡ length input₀) × (length out ≡ length out₀) × (length seen ≡ length seen₀) × (length kept ≡ length kept₀) × (length reports ≡ length reports₀) × (length declared ≡ length declared₀) × (p .window .at ≤ p .window .held) × (p .window .held ≤ length input)
+Inv-loop input₀ out₀ seen₀ kept₀ reports₀ declared₀ of-row₀ p₀ turns₀ input out seen kept reports declared of-row p turns = (length input ≡ length input₀) × (length out ≡ length out₀) × (length seen ≡ length seen₀) × (length kept ≡ length kept₀) × (length reports ≡ length reports₀) × (length declared ≡ length declared₀) × (length of-row ≡ length of-row₀) × (p .window .at ≤ p .window .held) × (p .window .held ≤ length input)
 
 abbrev μ-loop : tie.MeasureT-loop
-μ-loop input₀ out₀ seen₀ kept₀ reports₀ declared₀ p₀ turns₀ input out seen kept reports declared p turns = turns
+μ-loop input₀ out₀ seen₀ kept₀ reports₀ declared₀ of-row₀ p₀ turns₀ input out seen kept reports declared of-row p turns = turns
 
 begun-requires : tie.Need-begun-requires Inv-loop μ-loop
 begun-requires c κs = search needs
@@ -32,7 +32,7 @@ loop-less : tie.Need-loop-less Inv-loop μ-loop
 loop-less c = search needs
 
 loop-again : tie.Need-loop-again Inv-loop μ-loop
-loop-again c = (search needs, search needs, search needs, search needs, search needs, search needs, search needs, search needs)
+loop-again c = (search needs, search needs, search needs, search needs, search needs, search needs, search needs, search needs, search needs)
 
 flush-requires : tie.Need-flush-requires Inv-loop μ-loop
 flush-requires c κs = search needs
@@ -54,6 +54,9 @@ same-length-5 c = search needs
 
 same-length-6 : tie.Need-same-length-6 Inv-loop μ-loop
 same-length-6 c = search needs
+
+same-length-7 : tie.Need-same-length-7 Inv-loop μ-loop
+same-length-7 c = search needs
 
 returns : tie.Need-returns Inv-loop μ-loop
 returns c = search needs
@@ -78,4 +81,5 @@ answer-all-spec =
     same-length-4
     same-length-5
     same-length-6
+    same-length-7
     returns)

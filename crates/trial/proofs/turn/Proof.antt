@@ -17,7 +17,7 @@ answer-requires : tie.Need-answer-requires
 answer-requires c κs = search needs
 
 onward-requires : tie.Need-onward-requires
-onward-requires c κs = c .before .before .before .before .before .before .before .before .before .before .before .before .before .before .before .before .before .before .before .before .before .before .before .before .before .before .before .before .before .pre
+onward-requires c κs = c .before .before .before .before .before .before .before .before .before .before .before .before .before .before .before .before .before .before .before .before .before .before .before .before .before .before .before .before .before .before .before .before .before .pre
 
 same-length : tie.Need-same-length
 same-length c = search needs
@@ -37,6 +37,9 @@ same-length-5 c = search needs
 same-length-6 : tie.Need-same-length-6
 same-length-6 c = search needs
 
+same-length-7 : tie.Need-same-length-7
+same-length-7 c = search needs
+
 returns : tie.Need-returns
 returns c = search needs
 
@@ -55,4 +58,5 @@ turn-spec =
     same-length-4
     same-length-5
     same-length-6
+    same-length-7
     returns)
