@@ -2,8 +2,12 @@
 
 mod common;
 
+use std::collections::BTreeSet;
+
 use common::accepted;
-use second::batch::answer::answer_batch;
+use second::batch::answer::{answer_batch, answer_request};
+use second::batch::read::Items;
+use second::batch::state::State;
 use second::log::{row, run};
 use second::make::folders::folder;
 use second::make::maker::make;
@@ -104,4 +108,36 @@ fn random_batches_are_answered() {
             assert_eq!(batch, make(kind, seed, 500).unwrap());
         }
     }
+}
+
+/// Random logs have runs of every budget and of every refusal, first rows and later ones, and one log cut at every length.
+#[test]
+fn random_logs_have_every_kind_of_run() {
+    let batch = make("logs", 1, 8000).unwrap();
+    let (mut items, mut state) = (Items::new(&batch), State::default());
+    let (mut budgets, mut refusals, mut later, mut cuts) =
+        (BTreeSet::new(), BTreeSet::new(), BTreeSet::new(), BTreeSet::new());
+    while !items.at_end() {
+        let request = &batch[batch.len() - items.left()..];
+        let answer = answer_request(&mut state, &mut items).unwrap().line();
+        let mut asked = Items::new(request);
+        if asked.word() != Some(b"run") {
+            continue;
+        }
+        let (_, budget, log) = (asked.long().unwrap(), asked.long().unwrap(), asked.bytes().unwrap());
+        let told = String::from_utf8(answer).unwrap();
+        let number = |index: usize| told.split(' ').nth(index).and_then(|item| item.parse::<u64>().ok()).unwrap();
+        budgets.insert(budget.min(2));
+        refusals.insert(number(4));
+        if number(1) > 0 {
+            later.insert(number(4));
+        }
+        cuts.insert(log.len());
+    }
+    assert_eq!(budgets, BTreeSet::from([0, 1, 2]));
+    for refusal in [0, 12, 15, 16, 17, 18, 19, 20, 21, 24, 25] {
+        assert!(refusals.contains(&refusal), "no run is refused {refusal}");
+    }
+    assert_eq!(later, BTreeSet::from([0, 15, 16, 17, 18, 19, 20, 21]));
+    assert!((0..=40).all(|length| cuts.contains(&length)));
 }

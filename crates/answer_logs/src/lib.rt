@@ -1,7 +1,7 @@
-// Answers the calls on logs (docs/CASES.md, "Calls on what is remembered"): `row`, `run` and `lines`; `watch` is read, and not
-// answered yet. Of each table the numbers that are remembered as lent are lent to the library; the reports of the last row are
-// copied, for the lines of it that may be asked for. For the trial program alone.
-ghost use Prim.Native.Nat.{_*_, _≤_};
+// Answers the calls on logs (docs/CASES.md, "Calls on what is remembered"): `row`, `run` and `lines`. Of each table the numbers
+// that are remembered as lent are lent to the library; the reports of the last row are copied, for the lines of it that may be
+// asked for. For the trial program alone.
+ghost use Prim.Native.Nat.{_≤_};
 ghost use lib.ListN.{length};
 use answer_sessions::counted;
 use answer_sessions::unanswered;
@@ -38,14 +38,6 @@ pub struct RunAsked {
     pub next: usize,
 }
 
-// `watch` events pattern log: three texts, and the place after the request.
-pub struct WatchAsked {
-    pub events: read::Part,
-    pub pattern: read::Part,
-    pub log: read::Part,
-    pub next: usize,
-}
-
 // `lines` NUMBER: the number of the row, and the place after the request.
 struct LinesAsked {
     number: usize,
@@ -76,21 +68,6 @@ pub fn run_asked(s: &[u8], at: usize) -> RunAsked
         budget: budget.value,
         start: log.start,
         end: log.end,
-        next: read::line_end(s, log.next),
-    }
-}
-
-// The items of `watch`, which begin at a place.
-pub fn watch_asked(s: &[u8], at: usize) -> WatchAsked
-    ensures { λ r. ⌜ (r .events .start ≤ r .events .end) × (r .events .end ≤ length (now (s .entry))) × (r .pattern .start ≤ r .pattern .end) × (r .pattern .end ≤ length (now (s .entry))) × (r .log .start ≤ r .log .end) × (r .log .end ≤ length (now (s .entry))) ⌝ }
-{
-    let events = read::bytes(s, at);
-    let pattern = read::bytes(s, events.next);
-    let log = read::bytes(s, pattern.next);
-    WatchAsked {
-        events,
-        pattern,
-        log,
         next: read::line_end(s, log.next),
     }
 }

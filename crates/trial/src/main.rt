@@ -39,7 +39,11 @@ fn answer_alone(word: &[u8], s: &[u8], at: usize, out: &mut [u8], filled: usize)
     if on_texts.next != read::STUCK {
         return on_texts;
     }
-    answer_patterns::answer(word, s, at, out, filled)
+    let on_patterns = answer_patterns::answer(word, s, at, out, filled);
+    if on_patterns.next != read::STUCK {
+        return on_patterns;
+    }
+    answer_watch::answer(word, s, at, out, filled)
 }
 
 // The answer of a call on what is remembered. A group whose calls change the tables is chosen by its word, and none is asked after

@@ -3,8 +3,9 @@
 use crate::batch::write::call;
 use crate::make::maker::Maker;
 use crate::make::patterns::{any_pattern, bare_property, pattern};
+use crate::make::rng::Rng;
 use crate::make::sessions::lend;
-use crate::make::texts::{any_declarations, any_row, declarations, log, Declared};
+use crate::make::texts::{any_declarations, any_row, damaged, declarations, log, Declared};
 
 pub fn scene(maker: &mut Maker) {
     if maker.rng.chance(15) {
@@ -29,10 +30,10 @@ pub fn scene(maker: &mut Maker) {
     }
     let values = maker.rng.between(1, 3);
     for _ in 0..maker.rng.between(2, 10) {
-        if maker.rng.chance(55) {
-            row(maker, &declared, values);
-        } else {
-            run(maker, &declared, values);
+        match maker.rng.below(100) {
+            0..=54 => row(maker, &declared, values),
+            55..=98 => run(maker, &declared, values),
+            _ => cut_runs(maker, &declared, values),
         }
     }
 }
@@ -55,8 +56,35 @@ fn run(maker: &mut Maker, declared: &Declared, values: usize) {
         6..=8 => rng.below(text.len() + 1) as u64,
         _ => rng.odd_long(),
     };
-    let budget = if rng.chance(60) { 100 } else { rng.odd_long() };
+    let text = if rng.chance(10) { damaged(rng, text) } else { text };
+    let budget = budget(rng);
     maker.send(call("run").number(offset).number(budget).bytes(text));
+}
+
+/// A number of rows: all, none, one, a few, or any.
+fn budget(rng: &mut Rng) -> u64 {
+    match rng.below(10) {
+        0..=4 => 100,
+        5 => 0,
+        6 => 1,
+        7 => rng.between(2, 5) as u64,
+        _ => rng.odd_long(),
+    }
+}
+
+/// One short log, cut at every length or run from every offset, each run from the same tables.
+fn cut_runs(maker: &mut Maker, declared: &Declared, values: usize) {
+    let (rows, beginnings) = (maker.rng.between(1, 3), maker.rng.chance(50));
+    let mut text = log(&mut maker.rng, declared, rows, values);
+    text.truncate(40);
+    let good = maker.state.lent.clone();
+    for place in 0..=text.len() + 1 {
+        let budget = budget(&mut maker.rng);
+        let (offset, cut) = if beginnings { (0, place.min(text.len())) } else { (place as u64, text.len()) };
+        maker.send(call("run").number(offset).number(budget).bytes(&text[..cut]));
+        maker.send(call("seen").number(good.seen_count).list(&good.seen));
+        maker.send(call("kept").number(good.kept_count).list(&good.kept));
+    }
 }
 
 fn watch(maker: &mut Maker) {

@@ -1,0 +1,29 @@
+-- `answer_watch::print_heading` is safe: the declarations are taken, and the heading fits.
+-- Assumes nothing.
+use borrow.Author.Needs.{needs}
+use Rattle.answer_watch.specs.Taken.{taken-declared}
+use Rattle.answer_watch.proofs.print_heading.Statement.{statement}
+use Rattle.answer_watch.proofs.print_heading.Tie as tie
+
+returns : tie.Need-returns
+returns c = search needs
+
+read-requires : tie.Need-read-requires
+read-requires c κs = search needs
+
+returns-2 : tie.Need-returns-2
+returns-2 c = search needs
+
+put-heading-requires : tie.Need-put-heading-requires
+put-heading-requires c κs = let k = taken-declared _ _ (c .before .before .before .read .ensures) (c .before .if2 .left) in search needs
+
+same-length : tie.Need-same-length
+same-length c = search needs
+
+returns-3 : tie.Need-returns-3
+returns-3 c = search needs
+
+pub print-heading-spec : {M : Type 1} → statement M
+print-heading-spec =
+    tie.close
+    (tie.spec returns read-requires returns-2 put-heading-requires same-length returns-3)
