@@ -10,7 +10,7 @@ use lib.Dec.{ltb}
 use lib.ListN.{length, getD, drop}
 use Rattle.document.specs.Lists.{In, equal}
 use Rattle.document.specs.Limits.{keptStride, mostStates}
-use Rattle.document.specs.Refusals.{number, noRoomForSeen, noRoomForKept, noRoomForReports, Answer, taken, refused, refuseIf}
+use Rattle.document.specs.Refusals.{number, noRoomForSeen, noRoomForKept, noRoomForReports, Answer, taken, refused, refuseIf, refusalOf}
 use Rattle.document.specs.OneEvent.{Kept}
 use Rattle.document.specs.Tables.{seenRoom, keptRoom, reportRoom}
 use Rattle.document.specs.Property.{Property}
@@ -36,11 +36,6 @@ stepBy next verdicts hopes asks from s reports e b =
     withinRoomsBy verdicts from s reports (outcomeBy next hopes asks (seenOf s) (keptOf s) e b)
 
 -- The code's values ----------------------------------------------------------------------------------------------------
-
--- the number of refusal, or 0
-abbrev pub refusalOf : {A : Type 0} → Answer A → ℕ
-refusalOf (taken x) = 0
-refusalOf (refused r at) = number r
 
 -- "A refusal gives its number, .. the session counts as given"
 unfoldable pub answered : Session → List ℕ → Answer Happened → Answered
