@@ -33,21 +33,38 @@ use Rattle.keeping.specs.KeptAfterLaws.{keptAfter-grown}
 use Rattle.keeping.specs.KeepLaws.{seen-written-old}
 use Rattle.writing.specs.Writing.{reportOf, writtenBy, Reported, Writable, WrittenDown}
 use Rattle.writing.specs.WriteLaws.{reports-written, reports-none}
-use Rattle.advance.specs.Advancing.{told, Begins, Lowered, Advanceable, Passable, Passes, Advances}
-use Rattle.advance.specs.ToldLaws.{told-few, told-reports}
+use Rattle.inplace.specs.InPlace.{told, MovedInPlace}
+use Rattle.inplace.specs.ToldLaws.{told-few, told-reports}
+use Rattle.inplace.specs.declared.InPlace.{InPlace}
+use Rattle.advance.specs.Advancing.{Lowered, Advanceable, Passing, Passable, Passes, PassesOn, AdvancesOn, Advances}
+use Rattle.advance.specs.PassLaws.{passing-past}
 use Rattle.advance.specs.declared.Passed.{Passed}
 use Rattle.advance.specs.declared.Advanced.{Advanced}
 
 -- The whole pass -------------------------------------------------------------------------------------------------------
 
-pub passable-of : (next : List ℕ) (states e m from : ℕ) (b kept reports : List ℕ) (low : ℕ) → Advanceable next states e m from b kept reports
-    → Begins m kept (getD b 0 0) low → Passable next states e m from b kept reports low
-passable-of next states e m from b kept reports low u v = record { able = u; begins = v }
+-- the rows that moved in place before the pass
+in-place-passing : (next verdicts : List ℕ) (states hopes asks e m from : ℕ) (b kept t reports : List ℕ) (r : InPlace) → Advanceable next states e m from b kept reports
+    → MovedInPlace next states hopes asks e m b kept t r → Passing next verdicts states hopes asks e m from (r .row) (r .row) 0 b kept t reports reports
+unfolding keptFrom
+in-place-passing next verdicts states hopes asks e m from b kept t reports r u w = record {
+  able = u;
+  sifts = w .walks .sifts;
+  same = refl;
+  tells = record { rows = sym (ap (list.map (reportOf verdicts)) (w .walks .silent)); low = λ k h. refl; high = λ k h. refl };
+  few = omega arith;
+  above = w .above;
+}
+
+pub passable-of : (next verdicts : List ℕ) (states hopes asks e m from : ℕ) (b kept t reports : List ℕ) (r : InPlace) → Advanceable next states e m from b kept reports
+    → MovedInPlace next states hopes asks e m b kept t r → Passable next verdicts states hopes asks e m from b t reports (r .row)
+passable-of next verdicts states hopes asks e m from b kept t reports r u w =
+    record { before = kept; passing = in-place-passing next verdicts states hopes asks e m from b kept t reports r u w }
 
 module _ (next verdicts : List ℕ) (states hopes asks e m from : ℕ) (b kept t reports reports′ : List ℕ) (r : Passed)
     (u : Passes next verdicts states hopes asks e m from b kept t reports reports′ r) where
   -- nothing was dropped: the rows past the last stand where they stood
-  pub advanced-whole : r .left ≡ r .row → Advances next verdicts hopes asks e m from b kept t reports reports′ (record { kept = m; reported = r .reported })
+  advanced-whole : r .left ≡ r .row → Advances next verdicts hopes asks e m from b kept t reports reports′ (record { kept = m; reported = r .reported })
   advanced-whole q =
       let w = u .sifts .within in
       record {
@@ -65,7 +82,7 @@ module _ (next verdicts : List ℕ) (states hopes asks e m from : ℕ) (b kept t
       }
 
   -- they have moved down, and 0 is written where rows stood before
-  pub advanced-fewer : (q : ℕ) (t′ t″ : List ℕ) → Lowered (r .row * keptStride) (r .left * keptStride) (m * keptStride) t t′ q → ZeroIn q (m * keptStride) t′ t″
+  advanced-fewer : (q : ℕ) (t′ t″ : List ℕ) → Lowered (r .row * keptStride) (r .left * keptStride) (m * keptStride) t t′ q → ZeroIn q (m * keptStride) t′ t″
       → Advances next verdicts hopes asks e m from b kept t″ reports reports′ (record { kept = m - (r .row - r .left); reported = r .reported })
   advanced-fewer q t′ t″ l z =
       let w = u .sifts .within in
@@ -91,6 +108,29 @@ module _ (next verdicts : List ℕ) (states hopes asks e m from : ℕ) (b kept t
         zero = λ k h g. z .zero k (omega arith) g;
         tells = u .tells;
       }
+
+module _ (next verdicts : List ℕ) (states hopes asks e m from low : ℕ) (b t₁ t reports reports′ : List ℕ) (r : Passed)
+    (p : PassesOn next verdicts states hopes asks e m from low b t₁ t reports reports′ r) where
+  pub pass-whole : r .left ≡ r .row → AdvancesOn next verdicts states hopes asks e m from low b t₁ t reports reports′ (record { kept = m; reported = r .reported })
+  pass-whole q = record { on = λ x y. advanced-whole next verdicts states hopes asks e m from b x t reports reports′ r (p .on x y) q }
+
+  pub pass-fewer : (q : ℕ) (t′ t″ : List ℕ) → Lowered (r .row * keptStride) (r .left * keptStride) (m * keptStride) t t′ q → ZeroIn q (m * keptStride) t′ t″
+      → AdvancesOn next verdicts states hopes asks e m from low b t₁ t″ reports reports′ (record { kept = m - (r .row - r .left); reported = r .reported })
+  pass-fewer q t′ t″ l z = record { on = λ x y. advanced-fewer next verdicts states hopes asks e m from b x t reports reports′ r (p .on x y) q t′ t″ l z }
+
+module _ (next verdicts : List ℕ) (states hopes asks e m from : ℕ) (b kept t₁ reports : List ℕ) (w : InPlace)
+    (u : Advanceable next states e m from b kept reports) (v : MovedInPlace next states hopes asks e m b kept t₁ w) where
+  -- all rows moved in place
+  pub advance-in-place : w .row ≡ w .end → Advances next verdicts hopes asks e m from b kept t₁ reports reports (record { kept = m; reported = 0 })
+  advance-in-place q =
+      advanced-whole next verdicts states hopes asks e m from b kept t₁ reports reports (record { row = w .row; left = w .row; reported = 0 })
+      (passing-past next verdicts states hopes asks e m from (w .row) (w .row) 0 b kept t₁ reports reports
+      (in-place-passing next verdicts states hopes asks e m from b kept t₁ reports w u v) (λ k h g. v .past k (omega arith) g)) refl
+
+  -- the pass went on after them
+  pub advance-on : (t reports′ : List ℕ) (r : Advanced) → AdvancesOn next verdicts states hopes asks e m from (w .row) b t₁ t reports reports′ r
+      → Advances next verdicts hopes asks e m from b kept t reports reports′ r
+  advance-on t reports′ r p = p .on kept (in-place-passing next verdicts states hopes asks e m from b kept t₁ reports w u v)
 
 -- The outcome ----------------------------------------------------------------------------------------------------------
 

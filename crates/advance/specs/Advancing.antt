@@ -22,32 +22,9 @@ use Rattle.moves.specs.Ready.{Onward}
 use Rattle.keeping.specs.Keeping.{sifted, Sifted}
 use Rattle.keeping.specs.SiftLaws.{Sifting}
 use Rattle.writing.specs.Writing.{reportOf}
+use Rattle.inplace.specs.InPlace.{told}
 use Rattle.advance.specs.declared.Passed.{Passed}
 use Rattle.advance.specs.declared.Advanced.{Advanced}
-
--- The reports of rows that move in place -------------------------------------------------------------------------------
-
-module _ (step : ℕ → ℕ → ℕ) (e : ℕ) (b : List ℕ) where
-  unfoldable pub movedOn : Kept → Kept
-  movedOn k = record { combination = k .combination; state = step (k .state) e }
-
-  module _ (reported : Kept → Bool) where
-    unfoldable pub told : List Kept → List Kept
-    told [] = []
-    told (k ∷ l) = consIf (includes (k .combination) b && reported (movedOn k)) (movedOn k) (told l)
-
--- The first row that may include the binding ---------------------------------------------------------------------------
-
--- the first numbers of the rows never fall
-pub record Rising (m : ℕ) (t : List ℕ) : Type 0 where
-  pub inside : m * keptStride ≤ length t
-  pub rise : (i j : ℕ) → i < j → j < m → getD t (i * keptStride) 0 ≤ getD t (j * keptStride) 0
-
--- the rows below r begin with a number below the first of the binding, the others do not
-pub record Begins (m : ℕ) (t : List ℕ) (first r : ℕ) : Type 0 where
-  pub within : r ≤ m
-  pub low : (k : ℕ) → k < r → getD t (k * keptStride) 0 < first
-  pub high : (k : ℕ) → r ≤ k → k < m → first ≤ getD t (k * keptStride) 0
 
 -- One row --------------------------------------------------------------------------------------------------------------
 
@@ -88,10 +65,19 @@ pub record Tells (next verdicts : List ℕ) (asks e i from : ℕ) (b kept report
   pub low : (k : ℕ) → k < from → getD reports′ k 0 ≡ getD reports k 0
   pub high : (k : ℕ) → from + r * keptStride ≤ k → getD reports′ k 0 ≡ getD reports k 0
 
--- the pass from a row on, where the rows before it do not include b
-pub record Passable (next : List ℕ) (states e m from : ℕ) (b kept reports : List ℕ) (low : ℕ) : Type 0 where
-  pub able : Advanceable next states e m from b kept reports
-  pub begins : Begins m kept (getD b 0 0) low
+-- the pass has come to row i, with o rows left of those before it and `count` reports
+pub record Passing (next verdicts : List ℕ) (states hopes asks e m from i o count : ℕ) (b kept₀ kept reports₀ reports : List ℕ) : Type 0 where
+  pub able : Advanceable next states e m from b kept₀ reports₀
+  pub sifts : Sifting next states hopes e m i o b kept₀ kept
+  pub same : length reports ≡ length reports₀
+  pub tells : Tells next verdicts asks e i from b kept₀ reports₀ reports count
+  pub few : count ≤ i
+  pub above : (k : ℕ) → i ≤ k → k < m → getD b 0 0 ≤ getD kept₀ (k * keptStride) 0
+
+-- the rows before row `low` are done; `before` are the kept rows before the event
+pub record Passable (next verdicts : List ℕ) (states hopes asks e m from : ℕ) (b kept reports : List ℕ) (low : ℕ) : Type 0 where
+  pub before : List ℕ
+  pub passing : Passing next verdicts states hopes asks e m from low low 0 b before kept reports reports
 
 -- the pass stopped before a row from which on no row includes b
 pub record Passes (next verdicts : List ℕ) (states hopes asks e m from : ℕ) (b kept kept′ reports reports′ : List ℕ) (r : Passed) : Type 0 where
@@ -100,8 +86,21 @@ pub record Passes (next verdicts : List ℕ) (states hopes asks e m from : ℕ) 
       ≡ sifted (stepOf next) e b seen (stateIn hopes) (keptFrom (r .row) kept 0) ++ keptFrom (m - r .row) kept (r .row * keptStride)
   pub tells : Tells next verdicts asks e m from b kept reports reports′ (r .reported)
 
+-- whatever the kept rows were before the event
+pub record PassesOn (next verdicts : List ℕ) (states hopes asks e m from low : ℕ) (b kept kept′ reports reports′ : List ℕ) (r : Passed) : Type 0 where
+  pub fewer : r .left ≤ r .row
+  pub within : r .row ≤ m
+  pub inside : m * keptStride ≤ length kept′
+  pub on : (before : List ℕ) → Passing next verdicts states hopes asks e m from low low 0 b before kept reports reports
+      → Passes next verdicts states hopes asks e m from b before kept′ reports reports′ r
+
 -- every row as it stays or moves, the dropped ones left out and 0 where rows stood before; and every report
 pub record Advances (next verdicts : List ℕ) (hopes asks e m from : ℕ) (b kept kept′ reports reports′ : List ℕ) (r : Advanced) : Type 0 where
   pub sifts : Sifted next hopes e m b kept kept′ (r .kept)
   pub zero : (k : ℕ) → r .kept * keptStride ≤ k → k < m * keptStride → getD kept′ k 0 ≡ 0
   pub tells : Tells next verdicts asks e m from b kept reports reports′ (r .reported)
+
+-- the same, whatever the kept rows were before the event
+pub record AdvancesOn (next verdicts : List ℕ) (states hopes asks e m from low : ℕ) (b kept kept′ reports reports′ : List ℕ) (r : Advanced) : Type 0 where
+  pub on : (before : List ℕ) → Passing next verdicts states hopes asks e m from low low 0 b before kept reports reports
+      → Advances next verdicts hopes asks e m from b before kept′ reports reports′ r

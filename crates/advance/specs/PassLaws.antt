@@ -28,70 +28,22 @@ use Rattle.moves.specs.Steps.{stepOf, stateIn}
 use Rattle.keeping.specs.Keeping.{sifted, SettleReady, SettledRow}
 use Rattle.keeping.specs.SiftLaws.{settle-stays, settle-drops, settle-moves, Sifting, sifting-ready, sifting-turn}
 use Rattle.writing.specs.Writing.{reportOf}
-use Rattle.advance.specs.Advancing.{movedOn, told, ToldRow, MovedRow, Advanceable, Tells, Passable, Passes}
-use Rattle.advance.specs.FirstLaws.{rising-of}
-use Rattle.advance.specs.ToldLaws.{told-append, told-none, sifted-append, sifted-none}
+use Rattle.inplace.specs.InPlace.{movedOn, told, Movable}
+use Rattle.inplace.specs.SpanLaws.{rising-of}
+use Rattle.inplace.specs.ToldLaws.{told-append, told-none, sifted-append, sifted-none}
+use Rattle.inplace.specs.AgreeLaws.{apart, rows-in}
+use Rattle.advance.specs.Advancing.{ToldRow, MovedRow, Advanceable, Tells, Passing, Passable, Passes, PassesOn}
+use Rattle.advance.specs.declared.Passed.{Passed}
 
--- Rows that do not include the binding ---------------------------------------------------------------------------------
+pub movable-of : (next : List ℕ) (states e m from : ℕ) (b kept reports : List ℕ) → Advanceable next states e m from b kept reports → Movable next states e m b kept
+movable-of next states e m from b kept reports u = record { moves = u .moves; wide = u .wide; inside = u .inside; order = u .order; within = u .within }
 
--- a row that begins with another number than a binding that binds the first parameter
-apart : (t : List ℕ) (at : ℕ) (b : List ℕ) → length b ≡ width → (getD b 0 0 ≡ 0 → ⊥) → (getD t at 0 ≡ getD b 0 0 → ⊥) → includes (numbersAt width t at) b ≡ false
-unfolding includes numbersAt
-apart t at [] o z n = absurd (omega arith)
-apart t at (y ∷ b) o z n = rw (ne-eqb y 0 z, ne-eqb (getD t at 0) y n)
-
--- n rows from row i on, by what holds of each
-rows-in : (i n : ℕ) (t b : List ℕ) → ((k : ℕ) → i ≤ k → k < i + n → includes (numbersAt width t (k * keptStride)) b ≡ false)
-    → (x : Kept) → In x (keptFrom n t (i * keptStride)) → includes (x .combination) b ≡ false
-rows-in i n t b f x j =
-    let r = tabulate-in n (λ k. rowAt t (i * keptStride + k * keptStride)) x (rw (kept-tabulated n t (i * keptStride)) at j) in
-    let l = r .below in
-    let e : i * keptStride + r .at * keptStride ≡ (i + r .at) * keptStride = omega arith in
-    ap (λ (y : Kept). includes (y .combination) b) (r .is) ∙ ap (λ (y : ℕ). includes (numbersAt width t y) b) e ∙ f (i + r .at) (omega arith) (omega arith)
-
--- The pass -------------------------------------------------------------------------------------------------------------
-
-pub record Passing (next verdicts : List ℕ) (states hopes asks e m from i o count : ℕ) (b kept₀ kept reports₀ reports : List ℕ) : Type 0 where
-  pub able : Advanceable next states e m from b kept₀ reports₀
-  pub sifts : Sifting next states hopes e m i o b kept₀ kept
-  pub same : length reports ≡ length reports₀
-  pub tells : Tells next verdicts asks e i from b kept₀ reports₀ reports count
-  pub few : count ≤ i
-  pub above : (k : ℕ) → i ≤ k → k < m → getD b 0 0 ≤ getD kept₀ (k * keptStride) 0
-
-module _ (next verdicts : List ℕ) (states hopes asks e m from : ℕ) (b kept reports : List ℕ) where
-  pub passing-begins : (low : ℕ) → Passable next states e m from b kept reports low → Passing next verdicts states hopes asks e m from low low 0 b kept kept reports reports
-  unfolding keptFrom
-  passing-begins low u =
-      let none : (k : Kept) → In k (keptFrom low kept 0) → includes (k .combination) b ≡ false =
-      λ x j. rows-in 0 low kept b (λ k h g₀.
-      let g : k < low = omega arith in
-      let l = u .begins .low k g in
-      apart kept (k * keptStride) b (u .able .wide) (λ z. omega arith) (λ z. omega arith)) x j in
-      record {
-        able = u .able;
-        sifts = record {
-          able = record { moves = u .able .moves; wide = u .able .wide; inside = u .able .inside; within = u .able .within };
-          same = refl;
-          within = u .begins .within;
-          rows = λ seen. sym (sifted-none (stepOf next) e b seen (stateIn hopes) (keptFrom low kept 0) none);
-          rest = λ k h. refl;
-          fewer = omega arith;
-        };
-        same = refl;
-        tells = record {
-          rows = sym (ap (list.map (reportOf verdicts)) (told-none (stepOf next) e b (stateIn asks) (keptFrom low kept 0) none));
-          low = λ k h. refl;
-          high = λ k h. refl;
-        };
-        few = omega arith;
-        above = u .begins .high;
-      }
+-- The turns ----------------------------------------------------------------------------------------------------------
 
 module _ (next verdicts : List ℕ) (states hopes asks e m from i o count : ℕ) (b kept₀ kept reports₀ reports : List ℕ)
     (u : Passing next verdicts states hopes asks e m from i o count b kept₀ kept reports₀ reports) (h : i < m) where
   -- there is room for a report of each row
-  pub passing-room : from + (count + 1) * keptStride ≤ length reports
+  passing-room : from + (count + 1) * keptStride ≤ length reports
   unfolding reportRoom
   passing-room =
       let r = u .able .room in
@@ -104,13 +56,13 @@ module _ (next verdicts : List ℕ) (states hopes asks e m from i o count : ℕ)
   ready : SettleReady next states e i o b kept
   ready = sifting-ready next states hopes e m i o b kept₀ kept (u .sifts) h
 
-  pub passing-state : getD kept (i * keptStride + width) 0 < mostStates
+  passing-state : getD kept (i * keptStride + width) 0 < mostStates
   passing-state = let w = ready .within in let f = ready .moves .few in omega arith
 
-  pub passing-event : e < mostEvents
+  passing-event : e < mostEvents
   passing-event = u .able .moves .event
 
-  pub passing-onward : (to : ℕ) → to ≡ stepOf next (getD kept (i * keptStride + width) 0) e → to < mostStates
+  passing-onward : (to : ℕ) → to ≡ stepOf next (getD kept (i * keptStride + width) 0) e → to < mostStates
   passing-onward to q =
       let w = ready .moves .onward (getD kept (i * keptStride + width) 0) (ready .within) in
       let l = ready .moves .few in
@@ -139,7 +91,7 @@ module _ (next verdicts : List ℕ) (states hopes asks e m from i o count : ℕ)
         ≡ told (stepOf next) e b (stateIn asks) (keptFrom i kept₀ 0) ++ consIf (holds asks to) (record { combination = numbersAt width kept (i * keptStride); state = to }) []
     told-one z to p = rw (sym q ∙ z, ← p) at told-more
 
-    pub passing-stays : f ≡ false → (kept′ : List ℕ) → length kept′ ≡ length kept
+    passing-stays : f ≡ false → (kept′ : List ℕ) → length kept′ ≡ length kept
         → Put (o * keptStride) (numbersAt width kept (i * keptStride)) (getD kept (i * keptStride + width) 0) kept kept′
         → Passing next verdicts states hopes asks e m from (i + 1) (o + 1) count b kept₀ kept′ reports₀ reports
     unfolding told
@@ -157,7 +109,7 @@ module _ (next verdicts : List ℕ) (states hopes asks e m from i o count : ℕ)
       above = λ k g. u .above k (omega arith);
     }
 
-    pub passing-moves : f ≡ true → (to r s : ℕ) (kept′ reports′ : List ℕ) → to ≡ stepOf next (getD kept (i * keptStride + width) 0) e
+    passing-moves : f ≡ true → (to r s : ℕ) (kept′ reports′ : List ℕ) → to ≡ stepOf next (getD kept (i * keptStride + width) 0) e
         → length reports′ ≡ length reports → ToldRow verdicts asks to from count (numbersAt width kept (i * keptStride)) reports reports′ r
         → length kept′ ≡ length kept → MovedRow hopes to i o kept kept′ s
         → Passing next verdicts states hopes asks e m from (i + 1) s r b kept₀ kept′ reports₀ reports′
@@ -200,9 +152,10 @@ module _ (next verdicts : List ℕ) (states hopes asks e m from i o count : ℕ)
 
 module _ (next verdicts : List ℕ) (states hopes asks e m from i o count : ℕ) (b kept₀ kept reports₀ reports : List ℕ)
     (u : Passing next verdicts states hopes asks e m from i o count b kept₀ kept reports₀ reports) where
-  ends : ((k : ℕ) → i ≤ k → k < m → includes (numbersAt width kept₀ (k * keptStride)) b ≡ false)
+  -- where no row from row i on includes b
+  pub passing-past : ((k : ℕ) → i ≤ k → k < m → includes (numbersAt width kept₀ (k * keptStride)) b ≡ false)
       → Passes next verdicts states hopes asks e m from b kept₀ kept reports₀ reports (record { row = i; left = o; reported = count })
-  ends f =
+  passing-past f =
       let w = u .sifts .within in
       let none = rows-in i (m - i) kept₀ b (λ k g l. f k g (omega arith)) in
       let two = kept-two i m kept₀ w in
@@ -225,11 +178,11 @@ module _ (next verdicts : List ℕ) (states hopes asks e m from i o count : ℕ)
         };
       }
 
-  pub passing-ends : m ≤ i → Passes next verdicts states hopes asks e m from b kept₀ kept reports₀ reports (record { row = i; left = o; reported = count })
-  passing-ends h = ends (λ k g l. absurd (omega arith))
+  passing-ends : m ≤ i → Passes next verdicts states hopes asks e m from b kept₀ kept reports₀ reports (record { row = i; left = o; reported = count })
+  passing-ends h = passing-past (λ k g l. absurd (omega arith))
 
   -- row i begins with another number than the binding, so with a greater one, and so do the rows after it
-  pub passing-stops : i < m → (first : ℕ) (f : Bool) → first ≡ getD b 0 0 → f ≡ (not (eqb first 0) && not (eqb (getD kept (i * keptStride) 0) first)) → f ≡ true
+  passing-stops : i < m → (first : ℕ) (f : Bool) → first ≡ getD b 0 0 → f ≡ (not (eqb first 0) && not (eqb (getD kept (i * keptStride) 0) first)) → f ≡ true
       → Passes next verdicts states hopes asks e m from b kept₀ kept reports₀ reports (record { row = i; left = o; reported = count })
   passing-stops h first f p q z =
       let t = and-of (not (eqb (getD b 0 0) 0)) (not (eqb (getD kept (i * keptStride) 0) (getD b 0 0))) (so (sym (rw p at q) ∙ z)) in
@@ -238,10 +191,77 @@ module _ (next verdicts : List ℕ) (states hopes asks e m from i o count : ℕ)
       eqb-false (getD kept (i * keptStride) 0) (getD b 0 0) (not-of (eqb (getD kept (i * keptStride) 0) (getD b 0 0)) (t .1)) in
       let here = u .above i (omega arith) h in
       let same = u .sifts .rest (i * keptStride) (omega arith) in
-      let rise = rising-of next states e m from b kept₀ reports₀ (u .able) .rise in
-      ends (λ k g l.
+      let rise = rising-of next states e m b kept₀ (movable-of next states e m from b kept₀ reports₀ (u .able)) .rise in
+      passing-past (λ k g l.
       apart kept₀ (k * keptStride) b (u .able .wide) bound (λ y.
       elim (ℕ-discrete k i) [
         | yes x ↦ other (same ∙ ap (λ (n : ℕ). getD kept₀ (n * keptStride) 0) (sym x) ∙ y)
         | no x ↦ let r = rise i k (omega arith) l in other (omega arith)
       ]))
+
+-- Whatever the kept rows were before the event --------------------------------------------------------------------------
+
+pub record Underway (next verdicts : List ℕ) (states hopes asks e m from low i o count : ℕ) (b kept₀ kept reports₀ reports : List ℕ) : Type 0 where
+  pub before : List ℕ
+  pub passing : Passing next verdicts states hopes asks e m from i o count b before kept reports₀ reports
+  pub keptSame : length kept ≡ length kept₀
+  pub on : (x : List ℕ) → Passing next verdicts states hopes asks e m from low low 0 b x kept₀ reports₀ reports₀
+      → Passing next verdicts states hopes asks e m from i o count b x kept reports₀ reports
+
+pub underway-begins : (next verdicts : List ℕ) (states hopes asks e m from low : ℕ) (b kept reports : List ℕ) → Passable next verdicts states hopes asks e m from b kept reports low
+    → Underway next verdicts states hopes asks e m from low low low 0 b kept kept reports reports
+underway-begins next verdicts states hopes asks e m from low b kept reports u = record { before = u .before; passing = u .passing; keptSame = refl; on = λ x p. p }
+
+module _ (next verdicts : List ℕ) (states hopes asks e m from low i o count : ℕ) (b kept₀ kept reports₀ reports : List ℕ)
+    (u : Underway next verdicts states hopes asks e m from low i o count b kept₀ kept reports₀ reports) where
+  comes-to : ((x : List ℕ) → Passing next verdicts states hopes asks e m from i o count b x kept reports₀ reports
+      → Passes next verdicts states hopes asks e m from b x kept reports₀ reports (record { row = i; left = o; reported = count }))
+      → PassesOn next verdicts states hopes asks e m from low b kept₀ kept reports₀ reports (record { row = i; left = o; reported = count })
+  comes-to f =
+      let q = u .passing .sifts .same in
+      let h = u .passing .able .inside in
+      record { fewer = u .passing .sifts .fewer; within = u .passing .sifts .within; inside = omega arith; on = λ x p. f x (u .on x p) }
+
+  pub underway-ends : m ≤ i → PassesOn next verdicts states hopes asks e m from low b kept₀ kept reports₀ reports (record { row = i; left = o; reported = count })
+  underway-ends h = comes-to (λ x p. passing-ends next verdicts states hopes asks e m from i o count b x kept reports₀ reports p h)
+
+  pub underway-stops : i < m → (first : ℕ) (f : Bool) → first ≡ getD b 0 0 → f ≡ (not (eqb first 0) && not (eqb (getD kept (i * keptStride) 0) first)) → f ≡ true
+      → PassesOn next verdicts states hopes asks e m from low b kept₀ kept reports₀ reports (record { row = i; left = o; reported = count })
+  underway-stops h first f q p z = comes-to (λ x y. passing-stops next verdicts states hopes asks e m from i o count b x kept reports₀ reports y h first f q p z)
+
+  module _ (h : i < m) where
+    pub underway-room : from + (count + 1) * keptStride ≤ length reports
+    underway-room = passing-room next verdicts states hopes asks e m from i o count b (u .before) kept reports₀ reports (u .passing) h
+
+    pub underway-state : getD kept (i * keptStride + width) 0 < mostStates
+    underway-state = passing-state next verdicts states hopes asks e m from i o count b (u .before) kept reports₀ reports (u .passing) h
+
+    pub underway-event : e < mostEvents
+    underway-event = passing-event next verdicts states hopes asks e m from i o count b (u .before) kept reports₀ reports (u .passing) h
+
+    pub underway-onward : (to : ℕ) → to ≡ stepOf next (getD kept (i * keptStride + width) 0) e → to < mostStates
+    underway-onward = passing-onward next verdicts states hopes asks e m from i o count b (u .before) kept reports₀ reports (u .passing) h
+
+    module _ (f : Bool) (q : f ≡ includes (numbersAt width kept (i * keptStride)) b) where
+      pub underway-stays : f ≡ false → (kept′ : List ℕ) → length kept′ ≡ length kept
+          → Put (o * keptStride) (numbersAt width kept (i * keptStride)) (getD kept (i * keptStride + width) 0) kept kept′
+          → Underway next verdicts states hopes asks e m from low (i + 1) (o + 1) count b kept₀ kept′ reports₀ reports
+      underway-stays z kept′ l p =
+          record {
+            before = u .before;
+            passing = passing-stays next verdicts states hopes asks e m from i o count b (u .before) kept reports₀ reports (u .passing) h f q z kept′ l p;
+            keptSame = l ∙ u .keptSame;
+            on = λ x y. passing-stays next verdicts states hopes asks e m from i o count b x kept reports₀ reports (u .on x y) h f q z kept′ l p;
+          }
+
+      pub underway-moves : f ≡ true → (to r s : ℕ) (kept′ reports′ : List ℕ) → to ≡ stepOf next (getD kept (i * keptStride + width) 0) e
+          → length reports′ ≡ length reports → ToldRow verdicts asks to from count (numbersAt width kept (i * keptStride)) reports reports′ r
+          → length kept′ ≡ length kept → MovedRow hopes to i o kept kept′ s
+          → Underway next verdicts states hopes asks e m from low (i + 1) s r b kept₀ kept′ reports₀ reports′
+      underway-moves z to r s kept′ reports′ p lr t lk v =
+          record {
+            before = u .before;
+            passing = passing-moves next verdicts states hopes asks e m from i o count b (u .before) kept reports₀ reports (u .passing) h f q z to r s kept′ reports′ p lr t lk v;
+            keptSame = lk ∙ u .keptSame;
+            on = λ x y. passing-moves next verdicts states hopes asks e m from i o count b x kept reports₀ reports (u .on x y) h f q z to r s kept′ reports′ p lr t lk v;
+          }

@@ -21,6 +21,7 @@ use Rattle.slices.specs.TestsLaws.{so, not-so, either}
 use Rattle.combos.specs.NumbersLaws.{length-numbersAt, getD-numbersAt, Included, included-begins, included-stops, included-turn}
 use Rattle.combos.specs.Writes.{Put}
 use Rattle.tables.specs.TablesLaws.{row-is, kept-move, kept-more}
+use Rattle.inplace.specs.WalkLaws.{state-put}
 use Rattle.advance.specs.Advancing.{ToldRow, MovedRow, Lowered}
 
 -- Whether it includes the binding --------------------------------------------------------------------------------------
@@ -87,24 +88,6 @@ module _ (verdicts : List ℕ) (asks to from count : ℕ) (kept : List ℕ) (at 
   }
 
 -- Where it is written --------------------------------------------------------------------------------------------------
-
--- a row that stands where it is to be written
-pub stays-put : (i o : ℕ) (t : List ℕ) → o ≡ i → Put (o * keptStride) (numbersAt width t (i * keptStride)) (getD t (i * keptStride + width) 0) t t
-stays-put i o t q = rw q (record {
-  row = λ k h. sym (getD-numbersAt width t (i * keptStride) k h);
-  last = refl;
-  low = λ k h. refl;
-  high = λ k h. refl;
-})
-
--- and whose last number alone is written
-state-put : (at s : ℕ) (t : List ℕ) → at + keptStride ≤ length t → Put at (numbersAt width t at) s t (set t (at + width) s)
-state-put at s t h = record {
-  row = λ k g. getD-set-other t (at + width) (at + k) s 0 (λ q. omega arith) ∙ sym (getD-numbersAt width t at k g);
-  last = getD-set-same t (at + width) s 0 (omega arith);
-  low = λ k g. getD-set-other t (at + width) k s 0 (λ q. omega arith);
-  high = λ k g. getD-set-other t (at + width) k s 0 (λ q. omega arith);
-}
 
 module _ (hopes to i o : ℕ) (t : List ℕ) (f : Bool) (q : f ≡ holds hopes to) where
   pub row-drops : not f ≡ true → MovedRow hopes to i o t t o

@@ -1,6 +1,7 @@
 // An event whose binding is empty or seen already (document 01, "One event"): it creates no combination, so one pass over the
-// kept rows moves those that include the binding in place and reports them, in order. Above `moves`, `foreseen` and `combos`;
-// its promise is stated by the definitions of `keeping` and `writing`.
+// kept rows moves those that include the binding in place and reports them, in order. The first rows are `inplace`'s, which
+// at most events are all; the pass here goes on where a row is dropped or reported. Its promise is stated by the definitions
+// of `keeping` and `writing`.
 // Interior: `applies` and `advance`, for a session that was judged.
 ghost use Prim.Native.Nat.{_+_, _*_, _<_, _≤_};
 ghost use mathlib.Core.Path.{_≡_};
@@ -13,7 +14,7 @@ ghost use Rattle.document.specs.Tables.{numbersAt, seenRows, reportRoom};
 ghost use Rattle.combos.specs.Rows.{SeenInOrder};
 ghost use Rattle.combos.specs.Writes.{Put};
 ghost use Rattle.moves.specs.Steps.{isNew};
-ghost use Rattle.advance.specs.Advancing.{Rising, Begins, ToldRow, MovedRow, Lowered, Advanceable, Passable, Passes, Advances};
+ghost use Rattle.advance.specs.Advancing.{ToldRow, MovedRow, Lowered, Advanceable, Passable, PassesOn, AdvancesOn, Advances};
 use combos::Combination;
 use combos::KEPT_STRIDE;
 use combos::WIDTH;
@@ -52,28 +53,6 @@ pub fn applies(
 }
 
 // Rows that include the binding -----------------------------------------------------------------------------------------
-
-// The first row that does not begin with a number below the binding's first: rows ascend, so none before it includes the
-// binding.
-fn first_place(kept: &[u32], m: usize, first: u32) -> usize
-    requires { ⌜ Rising m (now kept) ⌝ }
-    ensures { λ r. ⌜ Begins m (now (kept .entry)) first r ⌝ }
-{
-    let mut low: usize = 0;
-    if first == 0 {
-        return low;
-    }
-    let mut high = m;
-    while low < high {
-        let middle = low + (high - low) / 2;
-        if kept[middle * KEPT_STRIDE] < first {
-            low = middle + 1;
-        } else {
-            high = middle;
-        }
-    }
-    low
-}
 
 // Whether a row begins with another number than the binding, which binds the first parameter: rows ascend, so none from there
 // on includes the binding. `first` is the binding's first number.
@@ -170,7 +149,7 @@ fn stay(kept: &mut [u32], i: usize, o: usize)
 
 // All rows --------------------------------------------------------------------------------------------------------------
 
-// Every row from row `low` on that may include the binding.
+// Every row from row `low` on that may include the binding: those before it are moved already.
 fn pass(
     next: &[u8; 1024],
     verdicts: &[u8; 64],
@@ -183,8 +162,8 @@ fn pass(
     b: Combination,
     low: usize,
 ) -> Passed
-    requires { ⌜ Passable (now next) (known .states) e m from b (now kept) (now reports) low ⌝ }
-    ensures { λ r. ⌜ Passes (now (next .entry)) (now (verdicts .entry)) (known .states) (known .hopeful) (known .asked) e m from b (now (kept .entry)) (now (kept .exit)) (now (reports .entry)) (now (reports .exit)) r ⌝ }
+    requires { ⌜ Passable (now next) (now verdicts) (known .states) (known .hopeful) (known .asked) e m from b (now kept) (now reports) low ⌝ }
+    ensures { λ r. ⌜ PassesOn (now (next .entry)) (now (verdicts .entry)) (known .states) (known .hopeful) (known .asked) e m from low b (now (kept .entry)) (now (kept .exit)) (now (reports .entry)) (now (reports .exit)) r ⌝ }
 {
     let first = b[0];
     let mut i = low;
@@ -232,6 +211,38 @@ fn lower(t: &mut [u32], from: usize, to: usize, end: usize) -> usize
     q
 }
 
+// The rows from row `low` on, and those past the last that may include the binding: they move down by as many as were dropped.
+fn pass_on(
+    next: &[u8; 1024],
+    verdicts: &[u8; 64],
+    known: Known,
+    kept: &mut [u32],
+    m: usize,
+    reports: &mut [u32],
+    from: usize,
+    e: usize,
+    b: Combination,
+    low: usize,
+) -> Advanced
+    requires { ⌜ Passable (now next) (now verdicts) (known .states) (known .hopeful) (known .asked) e m from b (now kept) (now reports) low ⌝ }
+    ensures { λ r. ⌜ AdvancesOn (now (next .entry)) (now (verdicts .entry)) (known .states) (known .hopeful) (known .asked) e m from low b (now (kept .entry)) (now (kept .exit)) (now (reports .entry)) (now (reports .exit)) r ⌝ }
+{
+    let a = pass(next, verdicts, known, kept, m, reports, from, e, b, low);
+    if a.left == a.row {
+        return Advanced {
+            kept: m,
+            reported: a.reported,
+        };
+    }
+    let end = m * KEPT_STRIDE;
+    let after = lower(kept, a.row * KEPT_STRIDE, a.left * KEPT_STRIDE, end);
+    combos::clear(kept, after, end);
+    Advanced {
+        kept: m - (a.row - a.left),
+        reported: a.reported,
+    }
+}
+
 // The kept rows after an event that creates nothing, and its reports from a report number on.
 pub fn advance(
     next: &[u8; 1024],
@@ -247,19 +258,12 @@ pub fn advance(
     requires { ⌜ Advanceable (now next) (known .states) e m from b (now kept) (now reports) ⌝ }
     ensures { λ r. ⌜ Advances (now (next .entry)) (now (verdicts .entry)) (known .hopeful) (known .asked) e m from b (now (kept .entry)) (now (kept .exit)) (now (reports .entry)) (now (reports .exit)) r ⌝ }
 {
-    let low = first_place(kept, m, b[0]);
-    let a = pass(next, verdicts, known, kept, m, reports, from, e, b, low);
-    if a.left == a.row {
+    let w = inplace::move_in_place(next, known, kept, m, e, b);
+    if w.row == w.end {
         return Advanced {
             kept: m,
-            reported: a.reported,
+            reported: 0,
         };
     }
-    let end = m * KEPT_STRIDE;
-    let after = lower(kept, a.row * KEPT_STRIDE, a.left * KEPT_STRIDE, end);
-    combos::clear(kept, after, end);
-    Advanced {
-        kept: m - (a.row - a.left),
-        reported: a.reported,
-    }
+    pass_on(next, verdicts, known, kept, m, reports, from, e, b, w.row)
 }

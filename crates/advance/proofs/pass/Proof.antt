@@ -1,6 +1,6 @@
 -- `advance::pass` meets its contract: the rows read so far are written or dropped, and their reports made.
 -- Assumes nothing.
-use Rattle.advance.specs.PassLaws.{Passing, passing-begins, passing-room, passing-state, passing-event, passing-onward, passing-stays, passing-moves, passing-ends, passing-stops}
+use Rattle.advance.specs.PassLaws.{Underway, underway-begins, underway-room, underway-state, underway-event, underway-onward, underway-stays, underway-moves, underway-ends, underway-stops}
 use Rattle.document.specs.Limits.{keptStride}
 use lib.ListN.{length, getD}
 use mathlib.Core.Path.{_≡_}
@@ -11,7 +11,7 @@ use Rattle.advance.proofs.pass.Statement.{statement}
 use Rattle.advance.proofs.pass.Tie as tie
 
 abbrev Inv-loop : tie.InvT-loop
-Inv-loop next verdicts known kept₀ m reports₀ from e low b first i₀ o₀ count₀ kept reports i o count = (first ≡ getD b 0 0) × (m * keptStride ≤ length kept) × (o ≤ i) × Passing next verdicts (known .states) (known .hopeful) (known .asked) e m from i o count b kept₀ kept reports₀ reports
+Inv-loop next verdicts known kept₀ m reports₀ from e low b first i₀ o₀ count₀ kept reports i o count = (first ≡ getD b 0 0) × (m * keptStride ≤ length kept) × (o ≤ i) × Underway next verdicts (known .states) (known .hopeful) (known .asked) e m from low i o count b kept₀ kept reports₀ reports
 
 abbrev μ-loop : tie.MeasureT-loop
 μ-loop next verdicts known kept₀ m reports₀ from e low b first i₀ o₀ count₀ kept reports i o count = m - i
@@ -20,7 +20,7 @@ array-read-first : tie.Need-array-read-first Inv-loop μ-loop
 array-read-first c = search needs
 
 loop-holds : tie.Need-loop-holds Inv-loop μ-loop
-loop-holds c = (search needs, search needs, search needs, search (needs, passing-begins))
+loop-holds c = (search needs, search needs, search needs, search (needs, underway-begins))
 
 mul-at : tie.Need-mul-at Inv-loop μ-loop
 mul-at c = search needs
@@ -35,7 +35,7 @@ same-length-2 : tie.Need-same-length-2 Inv-loop μ-loop
 same-length-2 c = search needs
 
 returns : tie.Need-returns Inv-loop μ-loop
-returns c = search (needs, passing-stops)
+returns c = search (needs, underway-stops)
 
 includes-at-requires : tie.Need-includes-at-requires Inv-loop μ-loop
 includes-at-requires c κs = search needs
@@ -50,13 +50,13 @@ slice-read-next-state : tie.Need-slice-read-next-state Inv-loop μ-loop
 slice-read-next-state c = search needs
 
 next-state-requires : tie.Need-next-state-requires Inv-loop μ-loop
-next-state-requires c κs = (search (needs, passing-state), search (needs, passing-event))
+next-state-requires c κs = (search (needs, underway-state), search (needs, underway-event))
 
 tell-requires : tie.Need-tell-requires Inv-loop μ-loop
-tell-requires c κs = (search (needs, passing-onward), search needs, search (needs, passing-room))
+tell-requires c κs = (search (needs, underway-onward), search needs, search (needs, underway-room))
 
 settle-requires : tie.Need-settle-requires Inv-loop μ-loop
-settle-requires c κs = (search (needs, passing-onward), search needs, search needs)
+settle-requires c κs = (search (needs, underway-onward), search needs, search needs)
 
 add-i : tie.Need-add-i Inv-loop μ-loop
 add-i c = search needs
@@ -65,7 +65,7 @@ loop-less : tie.Need-loop-less Inv-loop μ-loop
 loop-less c = search needs
 
 loop-again : tie.Need-loop-again Inv-loop μ-loop
-loop-again c = (search needs, search needs, moved-before _ _ _ _ _ _ _ (c .before .before .settle .ensures) (c .before .before .before .before .before .before .before .before .before .before .before .before .before .before .before .before .before .before .loop .inv .2), search (needs, passing-moves))
+loop-again c = (search needs, search needs, moved-before _ _ _ _ _ _ _ (c .before .before .settle .ensures) (c .before .before .before .before .before .before .before .before .before .before .before .before .before .before .before .before .before .before .loop .inv .2), search (needs, underway-moves))
 
 stay-requires : tie.Need-stay-requires Inv-loop μ-loop
 stay-requires c κs = search needs
@@ -80,7 +80,7 @@ loop-less-2 : tie.Need-loop-less-2 Inv-loop μ-loop
 loop-less-2 c = search needs
 
 loop-again-2 : tie.Need-loop-again-2 Inv-loop μ-loop
-loop-again-2 c = (search needs, search needs, search needs, search (needs, passing-stays))
+loop-again-2 c = (search needs, search needs, search needs, search (needs, underway-stays))
 
 same-length-3 : tie.Need-same-length-3 Inv-loop μ-loop
 same-length-3 c = search needs
@@ -89,7 +89,7 @@ same-length-4 : tie.Need-same-length-4 Inv-loop μ-loop
 same-length-4 c = search needs
 
 returns-2 : tie.Need-returns-2 Inv-loop μ-loop
-returns-2 c = search (needs, passing-ends)
+returns-2 c = search (needs, underway-ends)
 
 pub pass-spec : {M : Type 1} → statement M
 pass-spec =

@@ -1,6 +1,7 @@
 -- `advance::stay` meets its contract: the row stands there already, or it is written there.
 -- Assumes nothing.
-use Rattle.advance.specs.RowLaws.{stays-put, row-stays}
+use Rattle.inplace.specs.WalkLaws.{stays-put}
+use Rattle.advance.specs.RowLaws.{row-stays}
 use borrow.Author.Needs.{needs}
 use Rattle.advance.proofs.stay.Statement.{statement}
 use Rattle.advance.proofs.stay.Tie as tie

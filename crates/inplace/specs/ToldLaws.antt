@@ -20,7 +20,7 @@ use Rattle.moves.specs.Steps.{isNew, inPlace}
 use Rattle.moves.specs.Ready.{Right}
 use Rattle.moves.specs.MovesLaws.{in-place-join, in-place-moves, old-moves}
 use Rattle.keeping.specs.Keeping.{settled, settles, sifted}
-use Rattle.advance.specs.Advancing.{movedOn, told}
+use Rattle.inplace.specs.InPlace.{movedOn, told}
 
 -- Rows in two parts ----------------------------------------------------------------------------------------------------
 

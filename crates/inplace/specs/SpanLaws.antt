@@ -1,14 +1,14 @@
--- The turns of the search for the first row that may include the binding.
+-- Where the rows stand that may include the binding: the turns of the search, and what its two answers say.
 -- Assumes nothing.
 use Prim.Native.Nat.{ℕ, _+_, _*_, _<_, _≤_}
-use mathlib.Core.Path.{_≡_, ap, subst, _∙_}
+use mathlib.Core.Path.{_≡_, sym, ap, subst, _∙_}
 use mathlib.Core.Logic.{inl, inr}
 use mathlib.Core.List.{List}
 use native.Mathlib.Omega.{arith}
 use native.Mathlib.Nat.{zero-add}
-use native.Mathlib.Decide.{ℕ-discrete}
+use native.Mathlib.Decide.{decLt, ℕ-discrete}
 use lib.Dec.{T}
-use lib.ListN.{getD}
+use lib.ListN.{length, getD}
 use Rattle.document.specs.Limits.{width, keptStride}
 use Rattle.document.specs.Combinations.{precedes}
 use Rattle.document.specs.Tables.{numbersAt}
@@ -16,15 +16,16 @@ use Rattle.slices.specs.OrderLaws.{precedes-of, Ascends, combinations}
 use Rattle.tables.specs.Tables.{rowAt}
 use Rattle.tables.specs.TablesLaws.{kept-tabulated, combinations-tabulated}
 use Rattle.combos.specs.RowsLaws.{ascends-at}
-use Rattle.advance.specs.Advancing.{Rising, Begins, Advanceable}
+use Rattle.inplace.specs.InPlace.{Rising, Begins, Ends, Spans, Movable}
+use Rattle.inplace.specs.AgreeLaws.{apart}
 
 -- of two combinations in order, the first begins with no greater number
 precedes-first : (t : List ℕ) (a b : ℕ) → T (precedes (numbersAt width t a) (numbersAt width t b)) → getD t a 0 ≤ getD t b 0
 unfolding numbersAt
 precedes-first t a b h = elim (precedes-of (getD t a 0) (getD t b 0) _ _ h) [ inl l ↦ omega arith | inr e ↦ let q = e .0 in omega arith ]
 
-pub rising-of : (next : List ℕ) (states e m from : ℕ) (b kept reports : List ℕ) → Advanceable next states e m from b kept reports → Rising m kept
-rising-of next states e m from b kept reports u = record {
+pub rising-of : (next : List ℕ) (states e m : ℕ) (b kept : List ℕ) → Movable next states e m b kept → Rising m kept
+rising-of next states e m b kept u = record {
   inside = u .inside;
   rise = λ i j h g.
       precedes-first kept (i * keptStride) (j * keptStride)
@@ -57,26 +58,26 @@ pub begins-unbound : (m : ℕ) (t : List ℕ) (first : ℕ) → first ≡ 0 → 
 begins-unbound m t first q = record { within = omega arith; low = λ k h. absurd (omega arith); high = λ k h g. omega arith }
 
 module _ (m : ℕ) (t : List ℕ) (first : ℕ) (low high middle : ℕ) where
-  pub narrowing-up : Narrowing m t first low high → low ≤ middle → middle < high → getD t (middle * keptStride) 0 < first → Narrowing m t first (middle + 1) high
-  narrowing-up s l h q = record {
+  pub narrowing-up : Narrowing m t first low high → low ≤ middle → middle < high → (x : ℕ) → x ≡ getD t (middle * keptStride) 0 → x < first → Narrowing m t first (middle + 1) high
+  narrowing-up s l h x e q = record {
     table = s .table;
     between = omega arith;
     within = s .within;
     below = λ k g. elim (ℕ-discrete k middle) [
-      | yes z ↦ rw z q
+      | yes z ↦ rw (z, ← e) q
       | no z ↦ let r = s .table .rise k middle (omega arith) (let w = s .within in omega arith) in omega arith
     ];
     above = s .above;
   }
 
-  pub narrowing-down : Narrowing m t first low high → low ≤ middle → middle < high → first ≤ getD t (middle * keptStride) 0 → Narrowing m t first low middle
-  narrowing-down s l h q = record {
+  pub narrowing-down : Narrowing m t first low high → low ≤ middle → middle < high → (x : ℕ) → x ≡ getD t (middle * keptStride) 0 → first ≤ x → Narrowing m t first low middle
+  narrowing-down s l h x e q = record {
     table = s .table;
     between = l;
     within = let w = s .within in omega arith;
     below = s .below;
     above = λ k g i. elim (ℕ-discrete k middle) [
-      | yes z ↦ rw z q
+      | yes z ↦ rw (z, ← e) q
       | no z ↦ let r = s .table .rise middle k (omega arith) i in omega arith
     ];
   }
@@ -87,3 +88,39 @@ narrowing-ends m t first low high s h = record {
   low = s .below;
   high = λ k g i. s .above k (omega arith) i;
 }
+
+-- Its two answers ------------------------------------------------------------------------------------------------------
+
+-- where the binding does not bind the first parameter, after all rows
+pub ends-unbound : (m : ℕ) (t : List ℕ) (first : ℕ) → first ≡ 0 → Ends m t first m
+ends-unbound m t first q = record { within = omega arith; low = λ z. absurd (z q); high = λ k h g. absurd (omega arith) }
+
+pub ends-of : (m : ℕ) (t : List ℕ) (first wide r : ℕ) → (first ≡ 0 → ⊥) → wide ≡ first → Begins m t (wide + 1) r → Ends m t first r
+ends-of m t first wide r z q u = record {
+  within = u .within;
+  low = λ y k h. let l = u .low k h in omega arith;
+  high = λ k h g. (z, let l = u .high k h g in omega arith);
+}
+
+pub spans-of : (m : ℕ) (b t : List ℕ) (first wide low end : ℕ) → length b ≡ width → first ≡ getD b 0 0 → wide ≡ first → Begins m t wide low → Ends m t first end → Spans m b t low end
+spans-of m b t first wide low end o p q u v = record {
+  up = up;
+  within = v .within;
+  below = λ k h. let l = u .low k h in apart t (k * keptStride) b o (λ z. omega arith) (λ z. omega arith);
+  first = λ k h g. elim (ℕ-discrete first 0) [
+    | yes z ↦ inl (sym p ∙ z)
+    | no z ↦ let w = v .within in let l = u .high k h (omega arith) in let n = v .low z k g in let e : k * keptStride + 0 ≡ k * keptStride = omega arith in inr (ap (λ (x : ℕ). getD t x 0) e ∙ omega arith)
+  ];
+  above = λ k h g. let l = u .high k h g in omega arith;
+  past = λ k h g. let l = v .high k h g in let n = l .1 in apart t (k * keptStride) b o (λ z. l .0 (p ∙ z)) (λ z. omega arith);
+}
+  where
+    up : low ≤ end
+    up = elim (decLt end low) [
+      | no h ↦ omega arith
+      | yes h ↦
+          let w = u .within in
+          let l = u .low end h in
+          let n = v .high end (omega arith) (omega arith) .1 in
+          absurd (omega arith)
+    ]
