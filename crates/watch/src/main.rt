@@ -45,6 +45,16 @@ fn stopped(c: Course) -> Course {
     }
 }
 
+// How far a call of the library printed it.
+fn printed_to(d: printing::Printed) -> Course {
+    Course {
+        number: d.number,
+        seen: d.seen,
+        kept: d.kept,
+        well: true,
+    }
+}
+
 // Rows that are held whole, each with its line end, but for the last of a log.
 fn print_rows(
     declarations: &[u8],
@@ -81,12 +91,7 @@ fn print_rows(
         if !output::write_out(text, d.filled) {
             return stopped(c);
         }
-        c = Course {
-            number: d.number,
-            seen: d.seen,
-            kept: d.kept,
-            well: true,
-        };
+        c = printed_to(d);
         at = d.next;
     }
     c

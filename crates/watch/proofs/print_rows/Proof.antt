@@ -61,6 +61,9 @@ same-length-8 c = search needs
 returns-3 : tie.Need-returns-3 Inv-loop μ-loop
 returns-3 c = search needs
 
+printed-to-requires : tie.Need-printed-to-requires Inv-loop μ-loop
+printed-to-requires c κs = search needs
+
 loop-less : tie.Need-loop-less Inv-loop μ-loop
 loop-less c = search needs
 
@@ -104,6 +107,7 @@ print-rows-spec =
     same-length-7
     same-length-8
     returns-3
+    printed-to-requires
     loop-less
     loop-again
     same-length-9
