@@ -1,9 +1,9 @@
 -- Document 01, "What the promises say": "Each public call's promise determines its answer and every lent number afterwards for
 -- every input, refused ones too; that this leaves a single answer is proved". A part for each call of the face, in the order of
--- the document. `..Promise` is the call's own contract, as the checker reads it off the code (`Post`), of the arguments, the
--- answer and what the lent numbers hold afterwards; `..-takes`: it asks nothing of the arguments (`Pre`); `..-single`: two
--- answers that meet it for the same arguments are equal, and so is what they leave. So a contract that came to ask or to leave
--- open more would be refused here. What is lent to be read only is left as it was by its type.
+-- the document. `..Promise` is what a caller learns by the call's own contract, as the checker reads it off the code
+-- (`Learnt`), of the answer and of what the lent numbers hold afterwards; `..-takes`: a caller has nothing to show (`Asked`);
+-- `..-single`: two answers that meet the promise for the same arguments are equal, and so is what they leave. So a contract that
+-- came to ask for something, or to leave something open, would be refused here. What is lent to be read only stays by its type.
 -- Assumes nothing.
 use Prim.Native.Nat.{ℕ}
 use mathlib.Core.Path.{_≡_, refl, sym, _∙_}
@@ -34,10 +34,13 @@ use Rattle.log.proofs.run.Reads as run
 use Rattle.rows.proofs.field.Reads as field
 use Rattle.reader.specs.declared.Reader.{Reader}
 use Rattle.reader.specs.declared.Row.{Row}
+use Rattle.reader.specs.declared.Place.{Place}
 use Rattle.reader.specs.Handing.{HandsOut}
 use Rattle.reader.specs.WholeLog.{hands-single}
 use Rattle.reader.proofs.reader_at as reader-at
 use Rattle.reader.proofs.hand_out as hand-out
+use Rattle.reader.proofs.place_at.Reads as place-at
+use Rattle.reader.proofs.part.Reads as part
 use Rattle.printing.specs.declared.Printed.{Printed}
 use Rattle.printing.proofs.print.Reads as print
 use Rattle.single.specs.Leaves.{start-leaves-single, leaves-single, run-leaves-single, print-leaves-single}
@@ -52,9 +55,9 @@ Lent = RefT (List ℕ)
 -- declared::declarations(text)
 module _ (κs : Lfts 1) (text : Lent) where
   abbrev pub DeclarationsPromise : Declared → Type 0
-  DeclarationsPromise r = declarations.Post κs (text, tt) r (text, tt)
+  DeclarationsPromise r = declarations.Learnt κs (text, tt) r (text, tt)
 
-  pub declarations-takes : declarations.Pre κs (text, tt)
+  pub declarations-takes : declarations.Asked κs (text, tt)
   declarations-takes = tt
 
   pub declarations-single : (r q : Declared) → DeclarationsPromise r → DeclarationsPromise q → r ≡ q
@@ -65,9 +68,9 @@ module _ (κs : Lfts 1) (text : Lent) where
 -- translate::translate(declarations, pattern)
 module _ (κs : Lfts 2) (declarations pattern : Lent) where
   abbrev pub TranslatePromise : Translated → Type 0
-  TranslatePromise r = translate.Post κs (declarations, (pattern, tt)) r (declarations, (pattern, tt))
+  TranslatePromise r = translate.Learnt κs (declarations, (pattern, tt)) r (declarations, (pattern, tt))
 
-  pub translate-takes : translate.Pre κs (declarations, (pattern, tt))
+  pub translate-takes : translate.Asked κs (declarations, (pattern, tt))
   translate-takes = tt
 
   pub translate-single : (r q : Translated) → TranslatePromise r → TranslatePromise q → r ≡ q
@@ -76,9 +79,9 @@ module _ (κs : Lfts 2) (declarations pattern : Lent) where
 -- property::in_range(p)
 module _ (κs : Lfts 0) (p : Property) where
   abbrev pub InRangePromise : Bool → Type 0
-  InRangePromise r = in-range.Post κs (p, tt) r (p, tt)
+  InRangePromise r = in-range.Learnt κs (p, tt) r (p, tt)
 
-  pub in-range-takes : in-range.Pre κs (p, tt)
+  pub in-range-takes : in-range.Asked κs (p, tt)
   in-range-takes = tt
 
   pub in-range-single : (r q : Bool) → InRangePromise r → InRangePromise q → r ≡ q
@@ -89,9 +92,9 @@ module _ (κs : Lfts 0) (p : Property) where
 -- session::start(p, &mut seen, &mut kept)
 module _ (κs : Lfts 2) (p : Property) (seen kept : Lent) where
   abbrev pub StartPromise : Answered → List ℕ → List ℕ → Type 0
-  StartPromise r seen′ kept′ = start.Post κs (p, (seen, (kept, tt))) r (p, (last seen seen′, (last kept kept′, tt)))
+  StartPromise r seen′ kept′ = start.Learnt κs (p, (seen, (kept, tt))) r (p, (last seen seen′, (last kept kept′, tt)))
 
-  pub start-takes : start.Pre κs (p, (seen, (kept, tt)))
+  pub start-takes : start.Asked κs (p, (seen, (kept, tt)))
   start-takes = tt
 
   pub start-single : (r q : Answered) (seen′ seen″ kept′ kept″ : List ℕ)
@@ -104,10 +107,10 @@ module _ (κs : Lfts 3) (p : Property) (seen : Lent) (n : ℕ) (kept : Lent) (m 
     (values : List ℕ) where
   abbrev pub EventPromise : Answered → List ℕ → List ℕ → List ℕ → Type 0
   EventPromise r seen′ kept′ reports′ =
-      event.Post κs (p, (seen, (n, (kept, (m, (reports, (e, (values, tt)))))))) r
+      event.Learnt κs (p, (seen, (n, (kept, (m, (reports, (e, (values, tt)))))))) r
       (p, (last seen seen′, (n, (last kept kept′, (m, (last reports reports′, (e, (values, tt))))))))
 
-  pub event-takes : event.Pre κs (p, (seen, (n, (kept, (m, (reports, (e, (values, tt))))))))
+  pub event-takes : event.Asked κs (p, (seen, (n, (kept, (m, (reports, (e, (values, tt))))))))
   event-takes = tt
 
   pub event-single : (r q : Answered) (seen′ seen″ kept′ kept″ reports′ reports″ : List ℕ)
@@ -118,9 +121,9 @@ module _ (κs : Lfts 3) (p : Property) (seen : Lent) (n : ℕ) (kept : Lent) (m 
 -- session::lookup(p, seen, n, kept, m, c)
 module _ (κs : Lfts 2) (p : Property) (seen : Lent) (n : ℕ) (kept : Lent) (m : ℕ) (c : List ℕ) where
   abbrev pub LookupPromise : Looked → Type 0
-  LookupPromise r = lookup.Post κs (p, (seen, (n, (kept, (m, (c, tt)))))) r (p, (seen, (n, (kept, (m, (c, tt))))))
+  LookupPromise r = lookup.Learnt κs (p, (seen, (n, (kept, (m, (c, tt)))))) r (p, (seen, (n, (kept, (m, (c, tt))))))
 
-  pub lookup-takes : lookup.Pre κs (p, (seen, (n, (kept, (m, (c, tt))))))
+  pub lookup-takes : lookup.Asked κs (p, (seen, (n, (kept, (m, (c, tt))))))
   lookup-takes = tt
 
   pub lookup-single : (r q : Looked) → LookupPromise r → LookupPromise q → r ≡ q
@@ -131,9 +134,9 @@ module _ (κs : Lfts 2) (p : Property) (seen : Lent) (n : ℕ) (kept : Lent) (m 
 -- declared::header(declarations, row)
 module _ (κs : Lfts 2) (declarations bytes : Lent) where
   abbrev pub HeaderPromise : ℕ → Type 0
-  HeaderPromise r = header.Post κs (declarations, (bytes, tt)) r (declarations, (bytes, tt))
+  HeaderPromise r = header.Learnt κs (declarations, (bytes, tt)) r (declarations, (bytes, tt))
 
-  pub header-takes : header.Pre κs (declarations, (bytes, tt))
+  pub header-takes : header.Asked κs (declarations, (bytes, tt))
   header-takes = tt
 
   pub header-single : (r q : ℕ) → HeaderPromise r → HeaderPromise q → r ≡ q
@@ -144,10 +147,10 @@ module _ (κs : Lfts 5) (declarations : Lent) (p : Property) (seen : Lent) (n : 
     (reports bytes : Lent) where
   abbrev pub RowPromise : Answered → List ℕ → List ℕ → List ℕ → Type 0
   RowPromise r seen′ kept′ reports′ =
-      row.Post κs (declarations, (p, (seen, (n, (kept, (m, (reports, (bytes, tt)))))))) r
+      row.Learnt κs (declarations, (p, (seen, (n, (kept, (m, (reports, (bytes, tt)))))))) r
       (declarations, (p, (last seen seen′, (n, (last kept kept′, (m, (last reports reports′, (bytes, tt))))))))
 
-  pub row-takes : row.Pre κs (declarations, (p, (seen, (n, (kept, (m, (reports, (bytes, tt))))))))
+  pub row-takes : row.Asked κs (declarations, (p, (seen, (n, (kept, (m, (reports, (bytes, tt))))))))
   row-takes = tt
 
   pub row-single : (r q : Answered) (seen′ seen″ kept′ kept″ reports′ reports″ : List ℕ)
@@ -158,9 +161,9 @@ module _ (κs : Lfts 5) (declarations : Lent) (p : Property) (seen : Lent) (n : 
 -- rows::field(row, number): the bytes of the part
 module _ (κs : Lfts 1) (bytes : Lent) (number : ℕ) where
   abbrev pub FieldPromise : Lent → Type 0
-  FieldPromise r = field.Post κs (bytes, (number, tt)) r (bytes, (number, tt))
+  FieldPromise r = field.Learnt κs (bytes, (number, tt)) r (bytes, (number, tt))
 
-  pub field-takes : field.Pre κs (bytes, (number, tt))
+  pub field-takes : field.Asked κs (bytes, (number, tt))
   field-takes = tt
 
   pub field-single : (r q : Lent) → FieldPromise r → FieldPromise q → now r ≡ now q
@@ -169,24 +172,24 @@ module _ (κs : Lfts 1) (bytes : Lent) (number : ℕ) where
 -- declared::event_name(declarations, pattern, event), declared::pattern_name(declarations, pattern, at): the bytes of the part
 module _ (κs : Lfts 2) (declarations pattern : Lent) (number : ℕ) where
   abbrev pub EventNamePromise : Lent → Type 0
-  EventNamePromise r = event-name.Post κs (declarations, (pattern, (number, tt))) r (declarations, (pattern, (number, tt)))
+  EventNamePromise r = event-name.Learnt κs (declarations, (pattern, (number, tt))) r (declarations, (pattern, (number, tt)))
 
-  pub event-name-takes : event-name.Pre κs (declarations, (pattern, (number, tt)))
+  pub event-name-takes : event-name.Asked κs (declarations, (pattern, (number, tt)))
   event-name-takes = tt
 
   pub event-name-single : (r q : Lent) → EventNamePromise r → EventNamePromise q → now r ≡ now q
   event-name-single r q x y = x ∙ sym y
 
   abbrev pub PatternNamePromise : Lent → Type 0
-  PatternNamePromise r = pattern-name.Post κs (declarations, (pattern, (number, tt))) r (declarations, (pattern, (number, tt)))
+  PatternNamePromise r = pattern-name.Learnt κs (declarations, (pattern, (number, tt))) r (declarations, (pattern, (number, tt)))
 
-  pub pattern-name-takes : pattern-name.Pre κs (declarations, (pattern, (number, tt)))
+  pub pattern-name-takes : pattern-name.Asked κs (declarations, (pattern, (number, tt)))
   pattern-name-takes = tt
 
   pub pattern-name-single : (r q : Lent) → PatternNamePromise r → PatternNamePromise q → now r ≡ now q
   pattern-name-single r q x y = x ∙ sym y
 
--- The reader holds a reference, so the checker reads no `Post` off its two calls: that `..Promise` is their contract is shown
+-- The reader holds a reference, so the checker reads no `Learnt` off its two calls: that `..Promise` is their contract is shown
 -- by `..-promise`, in every model `w` of the checker's logic.
 -- reader::reader_at(log, at): the log as it was lent, and the position
 module _ (log : Lent) (at : ℕ) where
@@ -227,15 +230,36 @@ module _ (reader : RefT Reader) where
       let z = hands-single (x .1) (y .1) in
       (z .0, z .1 .0, λ i. record { log = (x .0 ∙ sym (y .0)) i; at = z .1 .1 i })
 
+-- reader::place_at(log, at) and reader::part(log, start, end): the same for callers whose code the checker walks by itself
+module _ (κs : Lfts 1) (log : Lent) (at : ℕ) where
+  abbrev pub PlaceAtPromise : Place → Type 0
+  PlaceAtPromise r = place-at.Learnt κs (log, (at, tt)) r (log, (at, tt))
+
+  pub place-at-takes : place-at.Asked κs (log, (at, tt))
+  place-at-takes = tt
+
+  pub place-at-single : (r q : Place) → PlaceAtPromise r → PlaceAtPromise q → r ≡ q
+  place-at-single r q x y = x ∙ sym y
+
+module _ (κs : Lfts 1) (log : Lent) (start end : ℕ) where
+  abbrev pub PartPromise : Lent → Type 0
+  PartPromise r = part.Learnt κs (log, (start, (end, tt))) r (log, (start, (end, tt)))
+
+  pub part-takes : part.Asked κs (log, (start, (end, tt)))
+  part-takes = tt
+
+  pub part-single : (r q : Lent) → PartPromise r → PartPromise q → now r ≡ now q
+  part-single r q x y = x ∙ sym y
+
 -- log::run(declarations, p, &mut seen, n, &mut kept, m, &mut reports, log, at, budget)
 module _ (κs : Lfts 5) (declarations : Lent) (p : Property) (seen : Lent) (n : ℕ) (kept : Lent) (m : ℕ)
     (reports log : Lent) (at budget : ℕ) where
   abbrev pub RunPromise : Ran → List ℕ → List ℕ → List ℕ → Type 0
   RunPromise r seen′ kept′ reports′ =
-      run.Post κs (declarations, (p, (seen, (n, (kept, (m, (reports, (log, (at, (budget, tt)))))))))) r
+      run.Learnt κs (declarations, (p, (seen, (n, (kept, (m, (reports, (log, (at, (budget, tt)))))))))) r
       (declarations, (p, (last seen seen′, (n, (last kept kept′, (m, (last reports reports′, (log, (at, (budget, tt))))))))))
 
-  pub run-takes : run.Pre κs (declarations, (p, (seen, (n, (kept, (m, (reports, (log, (at, (budget, tt))))))))))
+  pub run-takes : run.Asked κs (declarations, (p, (seen, (n, (kept, (m, (reports, (log, (at, (budget, tt))))))))))
   run-takes = tt
 
   pub run-single : (r q : Ran) (seen′ seen″ kept′ kept″ reports′ reports″ : List ℕ)
@@ -251,10 +275,10 @@ module _ (κs : Lfts 6) (declarations : Lent) (p : Property) (seen : Lent) (n : 
   abbrev pub PrintPromise : Printed → List ℕ → List ℕ → List ℕ → List ℕ → Type 0
   PrintPromise r seen′ kept′ reports′ text′ =
       let rest : Lent × (ℕ × (ℕ × (Lent × Unit {0}))) = (log, (at, (number, (last text text′, tt)))) in
-      print.Post κs (declarations, (p, (seen, (n, (kept, (m, (reports, (log, (at, (number, (text, tt))))))))))) r
+      print.Learnt κs (declarations, (p, (seen, (n, (kept, (m, (reports, (log, (at, (number, (text, tt))))))))))) r
       (declarations, (p, (last seen seen′, (n, (last kept kept′, (m, (last reports reports′, rest)))))))
 
-  pub print-takes : print.Pre κs (declarations, (p, (seen, (n, (kept, (m, (reports, (log, (at, (number, (text, tt)))))))))))
+  pub print-takes : print.Asked κs (declarations, (p, (seen, (n, (kept, (m, (reports, (log, (at, (number, (text, tt)))))))))))
   print-takes = tt
 
   pub print-single : (r q : Printed) (seen′ seen″ kept′ kept″ reports′ reports″ text′ text″ : List ℕ)
