@@ -2,8 +2,9 @@
 -- every input, refused ones too; that this leaves a single answer is proved". A part for each call of the face, in the order of
 -- the document. `..Promise` is what a caller learns by the call's own contract, as the checker reads it off the code
 -- (`Learnt`), of the answer and of what the lent numbers hold afterwards; `..-takes`: a caller has nothing to show (`Asked`);
--- `..-single`: two answers that meet the promise for the same arguments are equal, and so is what they leave. So a contract that
--- came to ask for something, or to leave something open, would be refused here. What is lent to be read only stays by its type.
+-- `..-single`: two answers that meet the promise for the same arguments are equal, and so is what they leave. So a contract
+-- that came to ask for something, or to leave something open, would be refused here. What is lent to be read only stays by its
+-- type.
 -- Assumes nothing.
 use Prim.Native.Nat.{ℕ}
 use mathlib.Core.Path.{_≡_, refl, sym, _∙_}
@@ -181,7 +182,8 @@ module _ (κs : Lfts 2) (declarations pattern : Lent) (number : ℕ) where
   event-name-single r q x y = x ∙ sym y
 
   abbrev pub PatternNamePromise : Lent → Type 0
-  PatternNamePromise r = pattern-name.Learnt κs (declarations, (pattern, (number, tt))) r (declarations, (pattern, (number, tt)))
+  PatternNamePromise r =
+      pattern-name.Learnt κs (declarations, (pattern, (number, tt))) r (declarations, (pattern, (number, tt)))
 
   pub pattern-name-takes : pattern-name.Asked κs (declarations, (pattern, (number, tt)))
   pattern-name-takes = tt
