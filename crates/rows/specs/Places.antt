@@ -3,8 +3,10 @@
 -- Assumes nothing.
 use Prim.Native.Nat.{ℕ, _+_}
 use mathlib.Core.Path.{_≡_}
+use mathlib.Core.Bool.{cond}
 use mathlib.Core.List.{List}
-use lib.ListN.{getD}
+use lib.ListN.{length, getD}
+use lib.Dec.{eqb}
 use denote.Ref.{RefT}
 use Rattle.document.specs.Rows.{Part, parts}
 
@@ -19,3 +21,7 @@ noPart = record { start = 0; size = 0 }
 
 unfoldable pub fieldPart : List ℕ → ℕ → Part
 fieldPart row k = getD (parts row) k noPart
+
+-- where a part lies that begins at a place, if it holds a byte; an empty one lies at the start
+unfoldable pub placeFrom : ℕ → List ℕ → ℕ
+placeFrom at bytes = cond (eqb (length bytes) 0) 0 at
