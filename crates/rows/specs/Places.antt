@@ -15,6 +15,10 @@ pub record PartAt (lent : RefT (List ℕ)) (start : ℕ) (bytes : List ℕ) (r :
   pub holds : r .now ≡ bytes
   pub lies : r .ptr ≡ (lent .ptr .0, start + lent .ptr .1)
 
+-- the same of the place alone
+abbrev pub Lies : RefT (List ℕ) → ℕ → RefT (List ℕ) → Type 0
+Lies lent start r = r .ptr ≡ (lent .ptr .0, start + lent .ptr .1)
+
 -- where a field is in its row; "where there is no such field .. the empty part at the start is given"
 abbrev pub noPart : Part
 noPart = record { start = 0; size = 0 }
