@@ -6,8 +6,8 @@
 -- that came to ask for something, or to leave something open, would be refused here. What is lent to be read only stays by its
 -- type.
 -- Assumes nothing.
-use Prim.Native.Nat.{ℕ}
-use mathlib.Core.Path.{_≡_, refl, sym, _∙_}
+use Prim.Native.Nat.{ℕ, _+_}
+use mathlib.Core.Path.{_≡_, refl, sym, ap, _∙_}
 use mathlib.Core.Bool.{Bool}
 use mathlib.Core.List.{List}
 use base.Logic.{emp}
@@ -32,6 +32,7 @@ use Rattle.session.proofs.lookup.Reads as lookup
 use Rattle.log.specs.declared.Ran.{Ran}
 use Rattle.log.proofs.row.Reads as row
 use Rattle.log.proofs.run.Reads as run
+use Rattle.rows.specs.Places.{Lies, placeFrom}
 use Rattle.rows.proofs.field.Reads as field
 use Rattle.reader.specs.declared.Reader.{Reader}
 use Rattle.reader.specs.declared.Row.{Row}
@@ -44,7 +45,7 @@ use Rattle.reader.proofs.place_at.Reads as place-at
 use Rattle.reader.proofs.part.Reads as part
 use Rattle.printing.specs.declared.Printed.{Printed}
 use Rattle.printing.proofs.print.Reads as print
-use Rattle.single.specs.Leaves.{start-leaves-single, leaves-single, run-leaves-single, print-leaves-single}
+use Rattle.single.specs.Leaves.{part-at-single, start-leaves-single, leaves-single, run-leaves-single, print-leaves-single}
 
 -- bytes or numbers that the caller lends, and a part of them that is given back; `now` is what they hold, and `last seen seen′`
 -- are the lent numbers `seen` when they hold seen′ at last
@@ -159,7 +160,7 @@ module _ (κs : Lfts 5) (declarations : Lent) (p : Property) (seen : Lent) (n : 
       → (r ≡ q) × (seen′ ≡ seen″) × (kept′ ≡ kept″) × (reports′ ≡ reports″)
   row-single r q seen′ seen″ kept′ kept″ reports′ reports″ x y = leaves-single x y
 
--- rows::field(row, number): the bytes of the part
+-- rows::field(row, number): the bytes of the part, and where it lies (`ptr`)
 module _ (κs : Lfts 1) (bytes : Lent) (number : ℕ) where
   abbrev pub FieldPromise : Lent → Type 0
   FieldPromise r = field.Learnt κs (bytes, (number, tt)) r (bytes, (number, tt))
@@ -167,10 +168,10 @@ module _ (κs : Lfts 1) (bytes : Lent) (number : ℕ) where
   pub field-takes : field.Asked κs (bytes, (number, tt))
   field-takes = tt
 
-  pub field-single : (r q : Lent) → FieldPromise r → FieldPromise q → now r ≡ now q
-  field-single r q x y = x ∙ sym y
+  pub field-single : (r q : Lent) → FieldPromise r → FieldPromise q → (now r ≡ now q) × (r .ptr ≡ q .ptr)
+  field-single r q x y = part-at-single x y
 
--- declared::event_name(declarations, pattern, event), declared::pattern_name(declarations, pattern, at): the bytes of the part
+-- declared::event_name(declarations, pattern, event), declared::pattern_name(declarations, pattern, at): the same
 module _ (κs : Lfts 2) (declarations pattern : Lent) (number : ℕ) where
   abbrev pub EventNamePromise : Lent → Type 0
   EventNamePromise r = event-name.Learnt κs (declarations, (pattern, (number, tt))) r (declarations, (pattern, (number, tt)))
@@ -178,8 +179,8 @@ module _ (κs : Lfts 2) (declarations pattern : Lent) (number : ℕ) where
   pub event-name-takes : event-name.Asked κs (declarations, (pattern, (number, tt)))
   event-name-takes = tt
 
-  pub event-name-single : (r q : Lent) → EventNamePromise r → EventNamePromise q → now r ≡ now q
-  event-name-single r q x y = x ∙ sym y
+  pub event-name-single : (r q : Lent) → EventNamePromise r → EventNamePromise q → (now r ≡ now q) × (r .ptr ≡ q .ptr)
+  event-name-single r q x y = part-at-single x y
 
   abbrev pub PatternNamePromise : Lent → Type 0
   PatternNamePromise r =
@@ -188,8 +189,8 @@ module _ (κs : Lfts 2) (declarations pattern : Lent) (number : ℕ) where
   pub pattern-name-takes : pattern-name.Asked κs (declarations, (pattern, (number, tt)))
   pattern-name-takes = tt
 
-  pub pattern-name-single : (r q : Lent) → PatternNamePromise r → PatternNamePromise q → now r ≡ now q
-  pattern-name-single r q x y = x ∙ sym y
+  pub pattern-name-single : (r q : Lent) → PatternNamePromise r → PatternNamePromise q → (now r ≡ now q) × (r .ptr ≡ q .ptr)
+  pattern-name-single r q x y = part-at-single x y
 
 -- The reader holds a reference, so the checker reads no `Learnt` off its two calls: that `..Promise` is their contract is shown
 -- by `..-promise`, in every model `w` of the checker's logic.
@@ -210,12 +211,14 @@ module _ (log : Lent) (at : ℕ) where
   pub reader-at-single : (r q : Reader) → ReaderAtPromise r → ReaderAtPromise q → r ≡ q
   reader-at-single r q x y = λ i. record { log = (x .0 ∙ sym (y .0)) i; at = (x .1 ∙ sym (y .1)) i }
 
--- reader::hand_out(&mut reader): whether there is a row, its bytes, and the reader afterwards, also where there is none
+-- reader::hand_out(&mut reader): whether there is a row, its bytes, where they lie, and the reader afterwards, also where there
+-- is none
 module _ (reader : RefT Reader) where
   abbrev pub HandOutPromise : Row → Reader → Type 0
   HandOutPromise h reader′ =
       (reader′ .log ≡ now reader .log)
       × HandsOut (now (now reader .log)) (now reader .at) (h .there) (now (h .bytes)) (reader′ .at)
+      × Lies (now reader .log) (placeFrom (now reader .at) (now (h .bytes))) (h .bytes)
 
   pub hand-out-promise : (w : World) (κs : Lfts 2) (h : Row) (reader′ : Reader)
       → hand-out.clauses (w .𝓤) (w .H) (w .𝓖 .A) (w .𝓜 .mem) (w .𝓡 .run) κs (reader, tt) .ensures tt h (last reader reader′, tt)
@@ -227,10 +230,15 @@ module _ (reader : RefT Reader) where
   hand-out-takes w κs = refl
 
   pub hand-out-single : (h k : Row) (reader′ reader″ : Reader) → HandOutPromise h reader′ → HandOutPromise k reader″
-      → (h .there ≡ k .there) × (now (h .bytes) ≡ now (k .bytes)) × (reader′ ≡ reader″)
+      → (h .there ≡ k .there) × (now (h .bytes) ≡ now (k .bytes)) × (h .bytes .ptr ≡ k .bytes .ptr) × (reader′ ≡ reader″)
   hand-out-single h k reader′ reader″ x y =
       let z = hands-single (x .1) (y .1) in
-      (z .0, z .1 .0, λ i. record { log = (x .0 ∙ sym (y .0)) i; at = z .1 .1 i })
+      let log = now reader .log in (
+        z .0,
+        z .1 .0,
+        x .2 ∙ ap (λ (b : List ℕ). (log .ptr .0, placeFrom (now reader .at) b + log .ptr .1)) (z .1 .0) ∙ sym (y .2),
+        λ i. record { log = (x .0 ∙ sym (y .0)) i; at = z .1 .1 i },
+      )
 
 -- reader::place_at(log, at) and reader::part(log, start, end): the same for callers whose code the checker walks by itself
 module _ (κs : Lfts 1) (log : Lent) (at : ℕ) where
@@ -250,8 +258,8 @@ module _ (κs : Lfts 1) (log : Lent) (start end : ℕ) where
   pub part-takes : part.Asked κs (log, (start, (end, tt)))
   part-takes = tt
 
-  pub part-single : (r q : Lent) → PartPromise r → PartPromise q → now r ≡ now q
-  part-single r q x y = x ∙ sym y
+  pub part-single : (r q : Lent) → PartPromise r → PartPromise q → (now r ≡ now q) × (r .ptr ≡ q .ptr)
+  part-single r q x y = part-at-single x y
 
 -- log::run(declarations, p, &mut seen, n, &mut kept, m, &mut reports, log, at, budget)
 module _ (κs : Lfts 5) (declarations : Lent) (p : Property) (seen : Lent) (n : ℕ) (kept : Lent) (m : ℕ)

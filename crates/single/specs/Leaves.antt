@@ -1,12 +1,14 @@
--- The records by which the calls over lent tables promise: two answers that meet one of them for the same input are equal, and
--- so is every lent number and byte afterwards. Whatever the definition's answer is, these hold.
+-- The records by which the calls promise: two answers that meet one of them for the same input are equal, and so is every lent
+-- number and byte afterwards. Whatever the definition's answer is, these hold.
 -- Assumes nothing.
 use Prim.Native.Nat.{ℕ}
 use mathlib.Core.Path.{_≡_, sym, _∙_}
 use mathlib.Core.List.{List}
+use denote.Ref.{RefT}
 use Rattle.document.specs.Refusals.{Answer}
 use Rattle.document.specs.Session.{Session, Happened}
 use Rattle.document.specs.Log as document
+use Rattle.rows.specs.Places.{PartAt}
 use Rattle.session.specs.declared.Answered.{Answered}
 use Rattle.session.specs.Calls.{StartLeaves, Leaves}
 use Rattle.log.specs.declared.Ran.{Ran}
@@ -14,6 +16,11 @@ use Rattle.log.specs.Running.{RunLeaves}
 use Rattle.runs.specs.PrintPart.{PrintedTo}
 use Rattle.printing.specs.declared.Printed.{Printed}
 use Rattle.printing.specs.Prints.{PrintLeaves}
+
+-- a part that is given back: its bytes and its place
+pub part-at-single : {lent : RefT (List ℕ)} {start : ℕ} {bytes : List ℕ} {r q : RefT (List ℕ)}
+    → PartAt lent start bytes r → PartAt lent start bytes q → (r .now ≡ q .now) × (r .ptr ≡ q .ptr)
+part-at-single x y = (x .holds ∙ sym (y .holds), x .lies ∙ sym (y .lies))
 
 pub start-leaves-single : {a : Answer Session} {seen kept : List ℕ} {r q : Answered} {seen′ seen″ kept′ kept″ : List ℕ}
     → StartLeaves a seen kept r seen′ kept′ → StartLeaves a seen kept q seen″ kept″
