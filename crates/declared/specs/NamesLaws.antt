@@ -6,15 +6,17 @@ use mathlib.Core.Path.{_≡_, refl, sym, ap, _∙_}
 use mathlib.Core.Logic.{inl, inr}
 use mathlib.Core.Bool.{Bool, true, false, not, _&&_}
 use mathlib.Core.List.{List, [], _∷_}
+use denote.Ref.{RefT}
 use lib.ListN.{length, getD, take, drop, length-drop}
 use lib.Dec.{eqb, leb, eqb·suc-suc, eqb·zero-suc}
 use native.Mathlib.Omega.{arith}
-use borrow.Author.Tests.{le-leb, lt-leb, not-true, not-false}
+use borrow.Author.Tests.{le-leb, lt-leb, not-true, not-false, ne-eqb}
 use Rattle.document.specs.Lists.{every, among, equal, takeWhile}
 use Rattle.document.specs.Limits.{nameBytes}
 use Rattle.document.specs.Classes.{letter, isLetter, isNameByte, zeroByte, oneByte}
 use Rattle.document.specs.Declarations.{isName, isMark, nameRun, nameAt}
 use Rattle.rows.specs.RowsLaws.{drop-here, drop-end, split-bool}
+use Rattle.rows.specs.Places.{PartAt, placeFrom}
 
 -- the longest part at the start whose members pass a test: at none, at one that passes, at one that does not
 run-stops : (p : ℕ → Bool) (s : List ℕ) (i : ℕ) → i < length s → p (getD s i 0) ≡ false → takeWhile p (drop i s) ≡ []
@@ -105,23 +107,50 @@ name-rest f end d h l e n q =
     whole false = refl
 
 -- The name at an offset of a text: none past the end, none where no letter is, else the run of name bytes.
-pub name-past : (s : List ℕ) (at : ℕ) → length s ≤ at → take (0 - 0) (drop 0 s) ≡ nameAt s at
+past-bytes : (s : List ℕ) (at : ℕ) → length s ≤ at → take (0 - 0) (drop 0 s) ≡ nameAt s at
 unfolding nameAt nameRun
-name-past s at h = rw (drop-end s at h)
+past-bytes s at h = rw (drop-end s at h)
 
-pub name-none : (s : List ℕ) (at : ℕ) (d : Bool) → at < length s → d ≡ isLetter (getD s at 0) → not d ≡ true → take (0 - 0) (drop 0 s) ≡ nameAt s at
+none-bytes : (s : List ℕ) (at : ℕ) (d : Bool) → at < length s → d ≡ isLetter (getD s at 0) → not d ≡ true → take (0 - 0) (drop 0 s) ≡ nameAt s at
 unfolding nameAt nameRun
-name-none s at d h e n = rw (drop-here s at h, sym e ∙ not-true d n)
+none-bytes s at d h e n = rw (drop-here s at h, sym e ∙ not-true d n)
 
 name-run : (s : List ℕ) (at : ℕ) → at < length s → isLetter (getD s at 0) ≡ true → nameAt s at ≡ takeWhile isNameByte (drop at s)
 unfolding nameAt nameRun
 name-run s at h e = rw (drop-here s at h, e)
 
-pub name-there : (s : List ℕ) (at end : ℕ) (d : Bool) → at < length s → d ≡ isLetter (getD s at 0) → not d ≡ false
+there-bytes : (s : List ℕ) (at end : ℕ) (d : Bool) → at < length s → d ≡ isLetter (getD s at 0) → not d ≡ false
     → end ≡ at + length (takeWhile isNameByte (drop at s)) → take (end - at) (drop at s) ≡ nameAt s at
-name-there s at end d h e n q =
+there-bytes s at end d h e n q =
     let k : end - at ≡ length (takeWhile isNameByte (drop at s)) = omega arith in
     rw k (run-part isNameByte (drop at s)) ∙ sym (name-run s at h (sym e ∙ not-false d n))
+
+-- a name holds a byte, its letter
+name-some : (s : List ℕ) (at : ℕ) → at < length s → isLetter (getD s at 0) ≡ true → eqb (length (nameAt s at)) 0 ≡ false
+name-some s at h e =
+    rw (name-run s at h e, run-goes-on isNameByte s at h (rw e)) (ne-eqb (suc (length (takeWhile isNameByte (drop (at + 1) s)))) 0 (λ z. absurd (omega arith)))
+
+module _ (lent x : RefT (List ℕ)) (at : ℕ) where
+  pub name-past : length (lent .now) ≤ at → x .now ≡ take (0 - 0) (drop 0 (lent .now)) → x .ptr ≡ (lent .ptr .0, 0 + lent .ptr .1)
+      → PartAt lent (placeFrom at (nameAt (lent .now) at)) (nameAt (lent .now) at) x
+  unfolding placeFrom
+  name-past h b l = let z = past-bytes (lent .now) at h in record { holds = b ∙ z; lies = rw (← z) l }
+
+  pub name-none : (d : Bool) → at < length (lent .now) → d ≡ isLetter (getD (lent .now) at 0) → not d ≡ true
+      → x .now ≡ take (0 - 0) (drop 0 (lent .now)) → x .ptr ≡ (lent .ptr .0, 0 + lent .ptr .1)
+      → PartAt lent (placeFrom at (nameAt (lent .now) at)) (nameAt (lent .now) at) x
+  unfolding placeFrom
+  name-none d h e n b l = let z = none-bytes (lent .now) at d h e n in record { holds = b ∙ z; lies = rw (← z) l }
+
+  pub name-there : (end : ℕ) (d : Bool) → at < length (lent .now) → d ≡ isLetter (getD (lent .now) at 0) → not d ≡ false
+      → end ≡ at + length (takeWhile isNameByte (drop at (lent .now)))
+      → x .now ≡ take (end - at) (drop at (lent .now)) → x .ptr ≡ (lent .ptr .0, at + lent .ptr .1)
+      → PartAt lent (placeFrom at (nameAt (lent .now) at)) (nameAt (lent .now) at) x
+  unfolding placeFrom
+  name-there end d h e n q b l = record {
+    holds = b ∙ there-bytes (lent .now) at end d h e n q;
+    lies = rw (name-some (lent .now) at h (sym e ∙ not-false d n)) l;
+  }
 
 pub name-inside : (s : List ℕ) (at end : ℕ) → at < length s → end ≡ at + length (takeWhile isNameByte (drop at s)) → (at ≤ end) × (end ≤ length s)
 name-inside s at end h e = let k = rw length-drop at (run-within isNameByte (drop at s)) in (omega arith, omega arith)

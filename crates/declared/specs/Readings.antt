@@ -1,15 +1,18 @@
 -- What the calls over declarations answer, tied to the definitions of document 01, "The declarations".
 -- A reading holds no name: it holds where each event's name stands in the text.
 -- Assumes nothing.
-use Prim.Native.Nat.{ℕ, _+_, _-_, _≤_}
+use Prim.Native.Nat.{ℕ, zero, suc, _+_, _-_, _<_, _≤_}
+use mathlib.Core.Bool.{cond}
 use mathlib.Core.Path.{_≡_}
 use mathlib.Core.List.{List, [], _++_}
 use lib.ListN.{length, getD, take, drop, set, replicate}
+use lib.Dec.{ltb}
 use Rattle.document.specs.Lists.{tabulate}
 use Rattle.document.specs.Limits.{width, mostEvents}
 use Rattle.document.specs.Refusals.{Answer, taken, refused, number}
 use Rattle.document.specs.Rows.{firstRow, fields}
 use Rattle.document.specs.Declarations.{Declared, declarations, eventRow}
+use Rattle.document.specs.Log.{nextAt}
 use Rattle.declared.specs.declared.Reading.{Reading}
 use Rattle.declared.specs.declared.Declared.{Declared as Judged}
 
@@ -41,6 +44,23 @@ pub record Stands (text : List ℕ) (d : Declared) (r : Reading) : Type 0 where
   pub fewEvents : r .events ≤ mostEvents
   pub someEvents : 1 ≤ r .events
 
+-- where the row of an event begins: after the header and the rows of the events before it
+unfoldable pub rowStart : List ℕ → ℕ → ℕ
+rowStart text zero = nextAt text 0
+rowStart text (suc e) = nextAt text (rowStart text e)
+
+-- where an event's name stands in its declarations: where its row begins; where there is no such name, the start
+unfoldable pub nameStart : Answer Declared → List ℕ → ℕ → ℕ
+nameStart (taken d) text e = cond (ltb e (length (d .events))) (rowStart text e) 0
+nameStart (refused q at) text e = 0
+
+unfoldable pub eventStart : List ℕ → ℕ → ℕ
+eventStart text e = nameStart (declarations text) text e
+
+-- each name that was read stands where its row begins
+pub record AtRows (text : List ℕ) (r : Reading) : Type 0 where
+  pub begin : (k : ℕ) → k < r .events → getD (r .starts) k 0 ≡ rowStart text k
+
 -- what `read` answers, by what the text's declarations are
 abbrev pub ReadAs : List ℕ → Reading → Answer Declared → Type 0
 ReadAs text r (taken d) = (r .refusal ≡ 0) × Stands text d r
@@ -48,6 +68,7 @@ ReadAs text r (refused q at) = r .refusal ≡ number q
 
 pub record Reads (text : List ℕ) (r : Reading) : Type 0 where
   pub says : ReadAs text r (declarations text)
+  pub places : AtRows text r
 
 -- A reading on the way, after some of the events: its places are sound, and what it says so far is declarations.
 pub record Placed (text : List ℕ) (r : Reading) : Type 0 where
@@ -94,5 +115,11 @@ abbrev pub RowAs : List ℕ → Reading → Answer Declared → Type 0
 RowAs text r (taken d) = Placed text r × (said text r ≡ d)
 RowAs text r (refused q at) = r .refusal ≡ number q
 
+-- an event more, whose name stands at the row's place
+pub record Follows (at : ℕ) (t r : Reading) : Type 0 where
+  pub events : r .events ≡ t .events + 1
+  pub starts : r .starts ≡ set (t .starts) (t .events) at
+
 pub record RowReads (text : List ℕ) (at : ℕ) (t r : Reading) : Type 0 where
   pub says : RowAs text r (eventRow (said text t) (firstRow (drop at text)))
+  pub follows : r .refusal ≡ 0 → Follows at t r

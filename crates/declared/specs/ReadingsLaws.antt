@@ -4,9 +4,10 @@ use Prim.Native.Nat.{ℕ, _+_, _-_, _≤_, _<_}
 use mathlib.Core.Path.{_≡_, refl, sym, ap, _∙_}
 use mathlib.Core.Bool.{Bool, true, false, not}
 use mathlib.Core.List.{List, []}
+use denote.Ref.{RefT}
 use lib.ListN.{length, getD, take, drop, replicate, List·getD-eq-default}
 use native.Mathlib.Omega.{arith}
-use borrow.Author.Tests.{not-true, not-false}
+use borrow.Author.Tests.{not-true, not-false, lt-ltb, le-ltb}
 use Rattle.document.specs.Lists.{equal}
 use Rattle.document.specs.Limits.{mostEvents}
 use Rattle.document.specs.Refusals.{Refusal, headerDiffers, number, Answer, taken, refused, refusalOf}
@@ -14,9 +15,10 @@ use Rattle.document.specs.RefusalsLaws.{number-some}
 use Rattle.document.specs.Rows.{firstRow}
 use Rattle.document.specs.Declarations.{Declared, declarations, header, eventNameOf, eventName}
 use Rattle.rows.specs.TextLaws.{row-part}
+use Rattle.rows.specs.Places.{PartAt}
 use Rattle.declared.specs.declared.Reading.{Reading}
 use Rattle.declared.specs.declared.Declared.{Declared as Judged}
-use Rattle.declared.specs.Readings.{padded, declaredOf, Stands, ReadAs, Reads}
+use Rattle.declared.specs.Readings.{padded, declaredOf, Stands, ReadAs, nameStart, eventStart, Reads}
 use Rattle.declared.specs.PlacesLaws.{names-at}
 
 pub record ReadTaken (text : List ℕ) (t : Reading) : Type 0 where
@@ -87,25 +89,63 @@ header-same text row t end b r n e q v =
     rw (w .is, sym d ∙ not-false b v)
 
 -- What `event_name` answers.
-pub event-refused : (text : List ℕ) (t : Reading) (event : ℕ) → Reads text t → (t .refusal ≡ 0 → ⊥) → take (0 - 0) (drop 0 text) ≡ eventName text event
+name-refused : (text : List ℕ) (t : Reading) (event : ℕ) → Reads text t → (t .refusal ≡ 0 → ⊥) → take (0 - 0) (drop 0 text) ≡ eventName text event
 unfolding eventName eventNameOf
-event-refused text t event r n = let w = reads-refused text t r n in rw (w .is)
+name-refused text t event r n = let w = reads-refused text t r n in rw (w .is)
 
-pub event-past : (text : List ℕ) (t : Reading) (event : ℕ) → Reads text t → t .refusal ≡ 0 → t .events ≤ event
+name-past : (text : List ℕ) (t : Reading) (event : ℕ) → Reads text t → t .refusal ≡ 0 → t .events ≤ event
     → take (0 - 0) (drop 0 text) ≡ eventName text event
 unfolding eventName eventNameOf
-event-past text t event r n h =
+name-past text t event r n h =
     let w = reads-taken text t r n in
     let k : length (w .said .events) ≤ event = let e = w .stands .events in omega arith in
     rw (w .is, List·getD-eq-default (w .said .events) [] k)
 
-pub event-there : (text : List ℕ) (t : Reading) (event : ℕ) → Reads text t → t .refusal ≡ 0 → event < t .events
+name-there : (text : List ℕ) (t : Reading) (event : ℕ) → Reads text t → t .refusal ≡ 0 → event < t .events
     → take (getD (t .starts) event 0 + getD (t .sizes) event 0 - getD (t .starts) event 0) (drop (getD (t .starts) event 0) text) ≡ eventName text event
 unfolding eventName eventNameOf
-event-there text t event r n h =
+name-there text t event r n h =
     let w = reads-taken text t r n in
     let e : getD (t .starts) event 0 + getD (t .sizes) event 0 - getD (t .starts) event 0 ≡ getD (t .sizes) event 0 = omega arith in
     rw (e, w .is, ← (w .stands .names)) (sym (names-at text (t .events) (t .starts) (t .sizes) event h))
+
+-- and where it lies
+start-refused : (text : List ℕ) (t : Reading) (event : ℕ) → Reads text t → (t .refusal ≡ 0 → ⊥) → 0 ≡ eventStart text event
+unfolding eventStart nameStart
+start-refused text t event r n = let w = reads-refused text t r n in rw (w .is)
+
+start-past : (text : List ℕ) (t : Reading) (event : ℕ) → Reads text t → t .refusal ≡ 0 → t .events ≤ event → 0 ≡ eventStart text event
+unfolding eventStart nameStart
+start-past text t event r n h =
+    let w = reads-taken text t r n in
+    let k : length (w .said .events) ≤ event = let e = w .stands .events in omega arith in
+    rw (w .is, le-ltb event (length (w .said .events)) k)
+
+start-there : (text : List ℕ) (t : Reading) (event : ℕ) → Reads text t → t .refusal ≡ 0 → event < t .events
+    → getD (t .starts) event 0 ≡ eventStart text event
+unfolding eventStart nameStart
+start-there text t event r n h =
+    let w = reads-taken text t r n in
+    let k : event < length (w .said .events) = let e = w .stands .events in omega arith in
+    rw (w .is, lt-ltb event (length (w .said .events)) k) (r .places .begin event h)
+
+module _ (lent x : RefT (List ℕ)) (t : Reading) (event : ℕ) (r : Reads (lent .now) t) where
+  pub event-refused : (t .refusal ≡ 0 → ⊥) → x .now ≡ take (0 - 0) (drop 0 (lent .now)) → x .ptr ≡ (lent .ptr .0, 0 + lent .ptr .1)
+      → PartAt lent (eventStart (lent .now) event) (eventName (lent .now) event) x
+  event-refused n b l =
+      record { holds = b ∙ name-refused (lent .now) t event r n; lies = rw (← start-refused (lent .now) t event r n) l }
+
+  pub event-past : t .refusal ≡ 0 → t .events ≤ event → x .now ≡ take (0 - 0) (drop 0 (lent .now)) → x .ptr ≡ (lent .ptr .0, 0 + lent .ptr .1)
+      → PartAt lent (eventStart (lent .now) event) (eventName (lent .now) event) x
+  event-past n h b l =
+      record { holds = b ∙ name-past (lent .now) t event r n h; lies = rw (← start-past (lent .now) t event r n h) l }
+
+  pub event-there : t .refusal ≡ 0 → event < t .events
+      → x .now ≡ take (getD (t .starts) event 0 + getD (t .sizes) event 0 - getD (t .starts) event 0) (drop (getD (t .starts) event 0) (lent .now))
+      → x .ptr ≡ (lent .ptr .0, getD (t .starts) event 0 + lent .ptr .1)
+      → PartAt lent (eventStart (lent .now) event) (eventName (lent .now) event) x
+  event-there n h b l =
+      record { holds = b ∙ name-there (lent .now) t event r n h; lies = rw (← start-there (lent .now) t event r n h) l }
 
 pub event-inside : (text : List ℕ) (t : Reading) (event : ℕ) → Reads text t → t .refusal ≡ 0 → event < t .events
     → (event < mostEvents) × (getD (t .starts) event 0 + getD (t .sizes) event 0 ≤ length text)

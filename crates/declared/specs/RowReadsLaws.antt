@@ -19,9 +19,9 @@ use Rattle.rows.specs.declared.Fields.{Fields}
 use Rattle.rows.specs.RowsLaws.{split-bool}
 use Rattle.rows.specs.TextLaws.{row-part, row-within}
 use Rattle.rows.specs.Split.{Split}
-use Rattle.rows.specs.FieldsLaws.{split-at, split-some}
+use Rattle.rows.specs.FieldsLaws.{split-at, split-some, split-first}
 use Rattle.declared.specs.declared.Reading.{Reading}
-use Rattle.declared.specs.Readings.{Inside, Placed, said, noneRead, oneMore, RowAs, RowReads}
+use Rattle.declared.specs.Readings.{Inside, Placed, said, noneRead, oneMore, RowAs, Follows, RowReads}
 use Rattle.declared.specs.PlacesLaws.{names-more}
 use Rattle.declared.specs.RowRefusalsLaws.{rowAdds, event-takes, event-fits, event-fields}
 
@@ -62,7 +62,10 @@ pub row-refused : (text : List ℕ) (at end : ℕ) (t r : Reading) (q : ℕ) →
     → q ≡ refusalOf (eventRow (said text t) (take (end - at) (drop at text))) → (q ≡ 0 → ⊥) → r ≡ noneRead q 0 → RowReads text at t r
 row-refused text at end t r q e h n z =
     let v : q ≡ refusalOf (eventRow (said text t) (firstRow (drop at text))) = rw (row-part text at end e) at h in
-    record { says = refused-as text r (eventRow (said text t) (firstRow (drop at text))) (ap (λ x. x .refusal) z ∙ v) (λ o. n (v ∙ o)) }
+    record {
+      says = refused-as text r (eventRow (said text t) (firstRow (drop at text))) (ap (λ x. x .refusal) z ∙ v) (λ o. n (v ∙ o));
+      follows = λ o. absurd (n (sym (ap (λ x. x .refusal) z) ∙ o));
+    }
 
 -- one event more
 more-inside : (text starts sizes : List ℕ) (n start size : ℕ) → Inside text starts sizes → n < length starts → n < length sizes
@@ -105,6 +108,10 @@ more-said text t start size marks row p l e m =
     let c = p .sets in
     rw (names-more text (t .events) (t .starts) (t .sizes) start size (omega arith) (omega arith), e, add-one, take-suc-set (t .sets) (t .events) marks (omega arith), m)
 
+more-follows : (at start size marks : ℕ) (t : Reading) → start ≡ at → Follows at t (oneMore t start size marks)
+unfolding oneMore
+more-follows at start size marks t e = record { events = refl; starts = rw e }
+
 taken-as : (text : List ℕ) (r : Reading) (a : Answer Declared) (d : Declared) → a ≡ taken d → Placed text r → said text r ≡ d → RowAs text r a
 taken-as text r a d e p q = rw e (p, q)
 
@@ -125,4 +132,5 @@ row-taken text at end t r f q marks e p h s v n m z =
           (rowAdds (said text t) row) a
           (more-placed text t (at + getD (f .starts) 0 0) (getD (f .sizes) 0 0) marks p l (field-inside text at end f e h s 0))
           (more-said text t (at + getD (f .starts) 0 0) (getD (f .sizes) 0 0) marks row p l name m));
+      follows = λ o. rw z (more-follows at (at + getD (f .starts) 0 0) (getD (f .sizes) 0 0) marks t (let y = split-first row f s in omega arith));
     }

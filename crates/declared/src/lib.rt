@@ -17,7 +17,8 @@ ghost use Rattle.document.specs.Classes.{isNameByte, oneByte, eventWord, epsilo
 ghost use Rattle.document.specs.Rows.{fields, field, firstRow};
 ghost use Rattle.document.specs.Declarations.{isName, isMark, setFrom, headerRow, eventRow, declarations, header, eventName, nameAt};
 ghost use Rattle.rows.specs.Split.{mostFields, Split};
-ghost use Rattle.declared.specs.Readings.{declaredOf, namesAt, Inside, Reads, Placed, said, noneRead, oneMore, RowReads};
+ghost use Rattle.rows.specs.Places.{PartAt, placeFrom};
+ghost use Rattle.declared.specs.Readings.{declaredOf, namesAt, Inside, Reads, Placed, said, noneRead, oneMore, RowReads, eventStart};
 
 // Limits of document 01: bytes of declarations or of a pattern, bytes of a name, events.
 pub const TEXT_BYTES: usize = 4096;
@@ -367,7 +368,7 @@ pub fn header(declarations: &[u8], row: &[u8]) -> u8
 
 // The name of an event by its number, as a part of the declarations; where there is none, the empty part at their start.
 pub fn event_name<'a, 'b>(declarations: &'a [u8], pattern: &'b [u8], event: usize) -> &'a [u8]
-    ensures { λ r. ⌜ now r ≡ eventName (now (declarations .entry)) event ⌝ }
+    ensures { λ r. ⌜ PartAt (declarations .entry) (eventStart (now (declarations .entry)) event) (eventName (now (declarations .entry)) event) r ⌝ }
 {
     let t = read(declarations);
     if t.refusal != refusals::TAKEN {
@@ -383,7 +384,7 @@ pub fn event_name<'a, 'b>(declarations: &'a [u8], pattern: &'b [u8], event: usiz
 
 // The name at an offset of the pattern text, as a part of it; where there is none, the empty part at its start.
 pub fn pattern_name<'a, 'b>(declarations: &'a [u8], pattern: &'b [u8], at: usize) -> &'b [u8]
-    ensures { λ r. ⌜ now r ≡ nameAt (now (pattern .entry)) at ⌝ }
+    ensures { λ r. ⌜ PartAt (pattern .entry) (placeFrom at (nameAt (now (pattern .entry)) at)) (nameAt (now (pattern .entry)) at) r ⌝ }
 {
     if pattern.len() <= at {
         return &pattern[0..0];

@@ -6,14 +6,16 @@ use mathlib.Core.Logic.{_⊎_, inl, inr}
 use mathlib.Core.Bool.{Bool, true, false}
 use mathlib.Core.List.{List, [], _∷_}
 use lib.ListN.{length, take, drop, length-drop}
-use lib.Seq.{drop-drop, take-nil, take-all}
+use denote.Ref.{RefT}
+use lib.Seq.{drop-drop, take-nil, take-all, length-take-le}
 use lib.Dec.{leb}
 use native.Mathlib.Omega.{arith}
-use borrow.Author.Tests.{le-leb, lt-leb, leb-true, leb-false}
+use borrow.Author.Tests.{le-leb, lt-leb, leb-true, leb-false, ne-eqb}
 use Rattle.document.specs.Rows.{endsRow, firstRow}
 use Rattle.document.specs.Log.{Handed, handed, noRow, handsOut, rowAt, nextAt}
 use Rattle.rows.specs.RowsLaws.{drop-end, first-ends, first-more, split-bool, next-more, next-none}
 use Rattle.rows.specs.TextLaws.{first-part}
+use Rattle.rows.specs.Places.{PartAt, Lies, placeFrom}
 use Rattle.reader.specs.declared.Place.{Place}
 use Rattle.reader.specs.Handing.{isThere, bytesOf, positionAfter, HandsOut, placeAt}
 
@@ -58,16 +60,52 @@ place-row log at end next h e n =
     rw (hands-row log at h) (λ i. record { there = true; end = e i; next = (n ∙ next-at-end log at end e) i })
 
 -- `part`: nothing between the places, a place past the log's end, and up to the log's end
-pub part-none : (log : List ℕ) (start end : ℕ) → end ≤ start → take 0 (drop 0 log) ≡ take (end - start) (drop start log)
-part-none log start end h = let k : end - start ≡ 0 = omega arith in rw k
+none-bytes : (log : List ℕ) (start end : ℕ) → end ≤ start → take 0 (drop 0 log) ≡ take (end - start) (drop start log)
+none-bytes log start end h = let k : end - start ≡ 0 = omega arith in rw k
 
-pub part-past : (log : List ℕ) (start end : ℕ) → length log ≤ start → take 0 (drop 0 log) ≡ take (end - start) (drop start log)
-part-past log start end h = rw (drop-end log start h) (sym (take-nil (end - start)))
+past-bytes : (log : List ℕ) (start end : ℕ) → length log ≤ start → take 0 (drop 0 log) ≡ take (end - start) (drop start log)
+past-bytes log start end h = rw (drop-end log start h) (sym (take-nil (end - start)))
 
-pub part-rest : (log : List ℕ) (start end : ℕ) → length log < end → take (length log - start) (drop start log) ≡ take (end - start) (drop start log)
-part-rest log start end h =
+rest-bytes : (log : List ℕ) (start end : ℕ) → length log < end → take (length log - start) (drop start log) ≡ take (end - start) (drop start log)
+rest-bytes log start end h =
     take-all (length log - start) (drop start log) (rw length-drop (omega arith))
     ∙ sym (take-all (end - start) (drop start log) (rw length-drop (omega arith)))
+
+-- a part that holds a byte lies where it begins
+some-held : (at : ℕ) (bytes : List ℕ) → 0 < length bytes → placeFrom at bytes ≡ at
+unfolding placeFrom
+some-held at bytes h = rw (ne-eqb (length bytes) 0 (λ z. absurd (omega arith)))
+
+module _ (lent x : RefT (List ℕ)) (start end : ℕ) where
+  abbrev Part : Type 0
+  Part = PartAt lent (placeFrom start (take (end - start) (drop start (lent .now)))) (take (end - start) (drop start (lent .now))) x
+
+  pub part-none : end ≤ start → x .now ≡ take (0 - 0) (drop 0 (lent .now)) → x .ptr ≡ (lent .ptr .0, 0 + lent .ptr .1) → Part
+  unfolding placeFrom
+  part-none h b l = let z = none-bytes (lent .now) start end h in record { holds = b ∙ z; lies = rw (← z) l }
+
+  pub part-past : length (lent .now) ≤ start → x .now ≡ take (0 - 0) (drop 0 (lent .now)) → x .ptr ≡ (lent .ptr .0, 0 + lent .ptr .1) → Part
+  unfolding placeFrom
+  part-past h b l = let z = past-bytes (lent .now) start end h in record { holds = b ∙ z; lies = rw (← z) l }
+
+  pub part-rest : start < length (lent .now) → length (lent .now) < end
+      → x .now ≡ take (length (lent .now) - start) (drop start (lent .now)) → x .ptr ≡ (lent .ptr .0, start + lent .ptr .1) → Part
+  part-rest i h b l =
+      let z = rest-bytes (lent .now) start end h in
+      let n = length-take-le (length (lent .now) - start) (drop start (lent .now)) (rw length-drop (omega arith)) in
+      let k : 0 < length (take (end - start) (drop start (lent .now))) = rw (← z, n) (omega arith) in
+      record { holds = b ∙ z; lies = rw (some-held start (take (end - start) (drop start (lent .now))) k) l }
+
+  pub part-there : start < end → end ≤ length (lent .now)
+      → x .now ≡ take (end - start) (drop start (lent .now)) → x .ptr ≡ (lent .ptr .0, start + lent .ptr .1) → Part
+  part-there i h b l =
+      let n = length-take-le (end - start) (drop start (lent .now)) (rw length-drop (omega arith)) in
+      let k : 0 < length (take (end - start) (drop start (lent .now))) = rw n (omega arith) in
+      record { holds = b; lies = rw (some-held start (take (end - start) (drop start (lent .now))) k) l }
+
+-- where the bytes of a part are known, so is its place
+pub held-lies : (lent x : RefT (List ℕ)) (at : ℕ) (bytes : List ℕ) → PartAt lent (placeFrom at bytes) bytes x → Lies lent (placeFrom at (x .now)) x
+held-lies lent x at bytes p = rw (p .holds) (p .lies)
 
 -- `hand_out`: the part between the row's places is the row
 bytes-part : (log : List ℕ) (at : ℕ) → take (at + length (bytesOf (handsOut log at)) - at) (drop at log) ≡ bytesOf (handsOut log at)

@@ -7,6 +7,7 @@
 ghost use mathlib.Core.Path.{_≡_};
 ghost use Prim.Native.Nat.{_+_, _-_};
 ghost use lib.ListN.{length, take, drop};
+ghost use Rattle.rows.specs.Places.{PartAt, Lies, placeFrom};
 ghost use Rattle.reader.specs.Handing.{placeAt, HandsOut};
 
 // The log, and where its next row begins. Past the log's end there is none.
@@ -51,7 +52,7 @@ pub fn place_at(log: &[u8], at: usize) -> Place
 
 // The part of a log from one place up to another, as far as the log goes.
 pub fn part(log: &[u8], start: usize, end: usize) -> &[u8]
-    ensures { λ r. ⌜ now r ≡ take (end - start) (drop start (now (log .entry))) ⌝ }
+    ensures { λ r. ⌜ PartAt (log .entry) (placeFrom start (take (end - start) (drop start (now (log .entry))))) (take (end - start) (drop start (now (log .entry)))) r ⌝ }
 {
     if end <= start {
         return &log[0..0];
@@ -74,7 +75,7 @@ pub fn reader_at<'a>(log: &'a [u8], at: usize) -> Reader<'a>
 
 // Hands out the next row and moves on to the one after it, or says that there is none and stays.
 pub fn hand_out<'s, 'a>(r: &'s mut Reader<'a>) -> Row<'a>
-    ensures { λ h. ⌜ (now (r .exit) .log ≡ now (r .entry) .log) × HandsOut (now (now (r .entry) .log)) (now (r .entry) .at) (h .there) (now (h .bytes)) (now (r .exit) .at) ⌝ }
+    ensures { λ h. ⌜ (now (r .exit) .log ≡ now (r .entry) .log) × HandsOut (now (now (r .entry) .log)) (now (r .entry) .at) (h .there) (now (h .bytes)) (now (r .exit) .at) × Lies (now (r .entry) .log) (placeFrom (now (r .entry) .at) (now (h .bytes))) (h .bytes) ⌝ }
 {
     let log = r.log;
     let at = r.at;

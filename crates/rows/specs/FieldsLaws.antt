@@ -14,6 +14,7 @@ use Rattle.document.specs.Rows.{Part, parts, partOf, fields, field}
 use Rattle.rows.specs.declared.Fields.{Fields}
 use Rattle.rows.specs.RowsLaws.{split-bool}
 use Rattle.rows.specs.Split.{mostFields, added, collected, noFields, Split}
+use Rattle.rows.specs.Places.{noPart}
 use Rattle.rows.specs.SplitLaws.{field-there}
 
 -- a count that goes no further than one past what a row can have
@@ -85,9 +86,6 @@ collected-keeps f (p ∷ l) k m h = elim (split-bool (leb mostFields (f .count))
 ]
 
 -- and one that is added gets the place after those before it
-abbrev noPart : Part
-noPart = record { start = 0; size = 0 }
-
 pub record Stands (k : ℕ) (f : Fields) (p : Part) : Type 0 where
   pub start : getD (f .starts) k 0 ≡ p .start
   pub size : getD (f .sizes) k 0 ≡ p .size
@@ -139,6 +137,15 @@ split-at row f k s h m =
     let z : 0 + k ≡ k = omega arith in
     let j = rw (z, ← (s .is)) at i in
     rw (j .start, j .size) (sym (List·getD-map (partOf row) (parts row) k noPart))
+
+-- the first field stands at the row's start
+pub split-first : (row : List ℕ) (f : Fields) → Split row f → getD (f .starts) 0 0 ≡ 0
+unfolding parts
+split-first row f s =
+    let n = fields-length row in
+    let m = fields-some row in
+    let i = collected-at noFields (parts row) 0 refl refl (omega arith) (omega arith) in
+    rw (← (s .is)) at (i .start) ∙ ap (λ l. getD l 0 noPart .start) (field-there row 0)
 
 pub split-part : (row : List ℕ) (f : Fields) (k : ℕ) → Split row f → k < f .count → f .count ≤ mostFields
     → take (getD (f .starts) k 0 + getD (f .sizes) k 0 - getD (f .starts) k 0) (drop (getD (f .starts) k 0) row) ≡ field row k

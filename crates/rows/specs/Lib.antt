@@ -1,4 +1,5 @@
 pub mod Split
+pub mod Places
 pub mod RowsLaws
 pub mod TextLaws
 pub mod SplitLaws

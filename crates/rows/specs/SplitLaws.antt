@@ -6,7 +6,8 @@ use mathlib.Core.Logic.{_⊎_, inl, inr}
 use mathlib.Core.Bool.{Bool, true, false}
 use mathlib.Core.List.{List, [], _∷_}
 use mathlib.Core.List as list
-use lib.ListN.{length, getD, take, drop, set, replicate, length-drop, length-set}
+use lib.ListN.{length, getD, take, drop, set, replicate, length-drop, length-set, List·getD-map}
+use denote.Ref.{RefT}
 use lib.Seq.{drop-drop, getD-set-same, getD-set-other}
 use lib.Dec.{eqb, leb}
 use native.Mathlib.Omega.{arith}
@@ -16,6 +17,7 @@ use Rattle.document.specs.Rows.{Part, partsFrom, parts, partOf, fields, field}
 use Rattle.rows.specs.declared.Fields.{Fields}
 use Rattle.rows.specs.RowsLaws.{drop-here, drop-end, split-bool}
 use Rattle.rows.specs.Split.{upToComma, mostFields, added, collected, noFields, Split}
+use Rattle.rows.specs.Places.{PartAt, noPart, fieldPart}
 
 -- The bytes before the first comma: at a comma, at another byte, at the end.
 pub comma-here : (s : List ℕ) (i : ℕ) → i < length s → getD s i 0 ≡ comma → upToComma (drop i s) ≡ 0
@@ -109,14 +111,14 @@ field-end-over s start i q h = let z = comma-never s i h in omega arith
 pub record Walk (row : List ℕ) (number start end left : ℕ) : Type 0 where
   pub place : start ≤ length row
   pub ends : end ≡ start + upToComma (drop start row)
-  pub rest : getD (list.map (partOf row) (partsFrom start start (drop start row))) left [] ≡ field row number
+  pub rest : getD (partsFrom start start (drop start row)) left noPart ≡ fieldPart row number
 
 pub walk-begins : (row : List ℕ) (number end : ℕ) → end ≡ 0 + upToComma (drop 0 row) → Walk row number 0 end number
-unfolding field fields parts
+unfolding fieldPart parts
 walk-begins row number end e = record { place = omega arith; ends = e; rest = refl }
 
-walk-tail : (row : List ℕ) (start left : ℕ) → getD (list.map (partOf row) (partsFrom start start (drop start row))) (suc left) []
-    ≡ getD (list.map (partOf row) (partsAfter start (drop start row))) left []
+walk-tail : (row : List ℕ) (start left : ℕ) → getD (partsFrom start start (drop start row)) (suc left) noPart
+    ≡ getD (partsAfter start (drop start row)) left noPart
 walk-tail row start left = rw (field-there row start)
 
 pub walk-on : (row : List ℕ) (number start end left end′ : ℕ) → Walk row number start end left → 0 < left → end < length row
@@ -126,24 +128,43 @@ walk-on row number start end left end′ w p h e =
     record {
       place = omega arith;
       ends = e;
-      rest = sym (ap (λ l. getD (list.map (partOf row) l) (left - 1) []) (fields-after row start end (w .ends) (w .place) h))
-          ∙ sym (walk-tail row start (left - 1)) ∙ ap (λ n. getD (list.map (partOf row) (partsFrom start start (drop start row))) n []) (sym k) ∙ w .rest;
+      rest = sym (ap (λ l. getD l (left - 1) noPart) (fields-after row start end (w .ends) (w .place) h))
+          ∙ sym (walk-tail row start (left - 1)) ∙ ap (λ n. getD (partsFrom start start (drop start row)) n noPart) (sym k) ∙ w .rest;
     }
 
-pub walk-none : (row : List ℕ) (number start end left : ℕ) → Walk row number start end left → 0 < left → length row ≤ end
-    → take (0 - 0) (drop 0 row) ≡ field row number
-walk-none row number start end left w p h =
-    let k : left ≡ suc (left - 1) = omega arith in
-    sym (ap (λ l. getD (list.map (partOf row) l) (left - 1) []) (fields-over row start end (w .ends) h))
-    ∙ sym (walk-tail row start (left - 1)) ∙ ap (λ n. getD (list.map (partOf row) (partsFrom start start (drop start row))) n []) (sym k) ∙ w .rest
+-- a field holds the bytes of its part
+field-part : (row : List ℕ) (number : ℕ) → field row number ≡ partOf row (fieldPart row number)
+unfolding field fields fieldPart partOf
+field-part row number = List·getD-map (partOf row) (parts row) number noPart
 
-pub walk-ends : (row : List ℕ) (number start end left : ℕ) → Walk row number start end left → left ≤ 0
-    → take (end - start) (drop start row) ≡ field row number
+-- past the last field: the empty part at the start
+walk-over : (row : List ℕ) (number start end left : ℕ) → Walk row number start end left → 0 < left → length row ≤ end → fieldPart row number ≡ noPart
+walk-over row number start end left w p h =
+    let k : left ≡ suc (left - 1) = omega arith in
+    sym (sym (ap (λ l. getD l (left - 1) noPart) (fields-over row start end (w .ends) h))
+    ∙ sym (walk-tail row start (left - 1)) ∙ ap (λ n. getD (partsFrom start start (drop start row)) n noPart) (sym k) ∙ w .rest)
+
+-- at the field: it is the part from `start` up to `end`
+walk-there : (row : List ℕ) (number start end left : ℕ) → Walk row number start end left → left ≤ 0
+    → fieldPart row number ≡ record { start = start; size = upToComma (drop start row) }
+walk-there row number start end left w h = let z : left ≡ 0 = omega arith in sym (rw (z, field-there row start) at (w .rest))
+
+pub walk-none : (lent r : RefT (List ℕ)) (number start end left : ℕ) → Walk (lent .now) number start end left → 0 < left → length (lent .now) ≤ end
+    → r .now ≡ take (0 - 0) (drop 0 (lent .now)) → r .ptr ≡ (lent .ptr .0, 0 + lent .ptr .1)
+    → PartAt lent (fieldPart (lent .now) number .start) (field (lent .now) number) r
 unfolding partOf
-walk-ends row number start end left w h =
-    let z : left ≡ 0 = omega arith in
-    let k : end - start ≡ upToComma (drop start row) = let e = w .ends in omega arith in
-    rw k (rw (z, field-there row start) at (w .rest))
+walk-none lent r number start end left w p h b l =
+    let z = walk-over (lent .now) number start end left w p h in
+    record { holds = b ∙ sym (field-part (lent .now) number ∙ ap (partOf (lent .now)) z); lies = rw z l }
+
+pub walk-ends : (lent r : RefT (List ℕ)) (number start end left : ℕ) → Walk (lent .now) number start end left → left ≤ 0
+    → r .now ≡ take (end - start) (drop start (lent .now)) → r .ptr ≡ (lent .ptr .0, start + lent .ptr .1)
+    → PartAt lent (fieldPart (lent .now) number .start) (field (lent .now) number) r
+unfolding partOf
+walk-ends lent r number start end left w h b l =
+    let z = walk-there (lent .now) number start end left w h in
+    let k : end - start ≡ upToComma (drop start (lent .now)) = let e = w .ends in omega arith in
+    record { holds = b ∙ sym (field-part (lent .now) number ∙ ap (partOf (lent .now)) z ∙ rw k); lies = rw z l }
 
 pub walk-inside : (row : List ℕ) (number start end left : ℕ) → Walk row number start end left → (start ≤ end) × (end ≤ length row)
 walk-inside row number start end left w = end-within row start end (w .ends) (w .place)

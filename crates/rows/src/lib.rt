@@ -9,6 +9,7 @@ ghost use Rattle.document.specs.Lists.{equal};
 ghost use Rattle.document.specs.Rows.{endsRow, firstRow, stray, field, valueOf};
 ghost use Rattle.document.specs.Log.{nextAt};
 ghost use Rattle.rows.specs.Split.{upToComma, mostFields, Split, added};
+ghost use Rattle.rows.specs.Places.{PartAt, fieldPart};
 
 const CR: u8 = 13;
 
@@ -113,7 +114,7 @@ pub fn field_end(row: &[u8], start: usize) -> usize
 
 // A field of a row, as that part of it; where there is none, the empty part at the start.
 pub fn field(row: &[u8], number: usize) -> &[u8]
-    ensures { λ r. ⌜ now r ≡ field (now (row .entry)) number ⌝ }
+    ensures { λ r. ⌜ PartAt (row .entry) (fieldPart (now (row .entry)) number .start) (field (now (row .entry)) number) r ⌝ }
 {
     let mut start: usize = 0;
     let mut end = field_end(row, start);

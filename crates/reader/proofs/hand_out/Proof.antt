@@ -46,7 +46,8 @@ use denote.Triple.Spec.{Meets, tripleOf}
 use denote.Triple.Table.{entered, cited}
 use denote.Triple.Walked.{says, Stays, stay-ref, walkOf, goes-ref, Walks, ends-at, walked, walk-meets}
 use Rattle.reader.specs.Handing.{placeAt}
-use Rattle.reader.specs.HandingLaws.{hands-out}
+use Rattle.rows.specs.Places.{PartAt, placeFrom}
+use Rattle.reader.specs.HandingLaws.{hands-out, held-lies}
 use Rattle.reader.specs.declared.Reader.{Reader}
 use Rattle.reader.specs.declared.Row.{Row}
 use Rattle.reader.specs.declared.Place.{Place}
@@ -161,6 +162,10 @@ module _ {M : Type 1} (𝓤 : URA M) (H : Heap 𝓤) (A : Atoms 𝓤) (W : Given
   said-place : (p : Place) → ent 𝓤 (ensured 𝓤 H A place-at.ended (place-at.clauses 𝓤 H A at-mem run) (κ′, tt) (h .log, (h .at, tt)) tt p) (fact 𝓤 (p ≡ placeAt (now (h .log)) (h .at)))
   said-place p = exE 𝓤 _ (λ ws. snd∗ 𝓤 (sem 𝓤 H A (lasts place-at.ended (κ′, tt) (h .log, (h .at, tt)) ws)) (fact 𝓤 (p ≡ placeAt (now (h .log)) (h .at))))
 
+  -- what is known of a part of the log up to the place e
+  abbrev IsPart : ℕ → RefT (List ℕ) → Type 0
+  IsPart e s = PartAt (h .log) (placeFrom (h .at) (take (e - h .at) (drop (h .at) (now (h .log))))) (take (e - h .at) (drop (h .at) (now (h .log)))) s
+
   -- the call of `part`, up to the place e
   abbrev passed-part : ℕ → Vals part.signature (κ′, tt)
   passed-part e = (v ∷ [], (vint w64 (h .at) ∷ [], (vint w64 e ∷ [], tt)))
@@ -179,19 +184,19 @@ module _ {M : Type 1} (𝓤 : URA M) (H : Heap 𝓤) (A : Atoms 𝓤) (W : Given
       nothing ! $ owned ! usize (Is usize) (uint-makes 𝓤 H A W w64) e _ (refl, e-fits) $ fjoin ! $ owned ! usize (Is usize) (uint-makes 𝓤 H A W w64) (h .at) _ (refl, fits) $ fjoin ! $ move ! (1 ∷ 0 ∷ []) $ fjoin ! $
       move ! (2 ∷ 0 ∷ []) $ use2 W (raw (PartOf 𝓤 H A at-mem run .pre (to-part e))) (asked-part e) $ frame ! $ done !
 
-  said-part : (e : ℕ) (s : RefT (List ℕ)) → ent 𝓤 (ensured 𝓤 H A part.ended (part.clauses 𝓤 H A at-mem run) (κ′, tt) (h .log, (h .at, (e, tt))) tt s) (fact 𝓤 (now s ≡ take (e - h .at) (drop (h .at) (now (h .log)))))
-  said-part e s = exE 𝓤 _ (λ ws. snd∗ 𝓤 (sem 𝓤 H A (lasts part.ended (κ′, tt) (h .log, (h .at, (e, tt))) ws)) (fact 𝓤 (now s ≡ take (e - h .at) (drop (h .at) (now (h .log))))))
+  said-part : (e : ℕ) (s : RefT (List ℕ)) → ent 𝓤 (ensured 𝓤 H A part.ended (part.clauses 𝓤 H A at-mem run) (κ′, tt) (h .log, (h .at, (e, tt))) tt s) (fact 𝓤 (IsPart e s))
+  said-part e s = exE 𝓤 _ (λ ws. snd∗ 𝓤 (sem 𝓤 H A (lasts part.ended (κ′, tt) (h .log, (h .at, (e, tt))) ws)) (fact 𝓤 (IsPart e s)))
 
   -- what the log owns is kept, and the position's facts are made anew
   again : (n : ℕ) → n < 2 ^ 64 → ent 𝓤 (sem 𝓤 H A Own) (sem 𝓤 H A (B κ′ .own (moved n) (T′.lowered (moved n) ∷ [])))
   again n ok = qed W (‵ Own ∷ []) ∵ owned ! usize (Is usize) (uint-makes 𝓤 H A W w64) n _ (refl, ok) $ move ! (1 ∷ 0 ∷ []) $ by ! (own-put 𝓤 H A W D L 1 vh n mach)
 
-  exits : (p : Place) (s : RefT (List ℕ)) → p ≡ placeAt (now (h .log)) (h .at) → now s ≡ take (p .end - h .at) (drop (h .at) (now (h .log)))
+  exits : (p : Place) (s : RefT (List ℕ)) → p ≡ placeAt (now (h .log)) (h .at) → IsPart (p .end) s
       → ent 𝓤 (⋆ 𝓤 H A (‵ (fobs γ (B κ′ .coded .code (moved (p .next)))) ∷ ‵ (fbor κ (Body (mem (B κ′)) b o γ)) ∷ ‵ (flft κ q) ∷ ‵ (Bytes .own s (sliceVal (s .ptr) (length (s .now)) ∷ [])) ∷ (‵ (flft κ′ q′) ⊛ ‵ ftrue) ∷ [])) (Post (R′.lowered (given-out s p)))
   exits p s e e′ =
       qed W (‵ (fobs γ (B κ′ .coded .code (moved (p .next)))) ∷ ‵ (fbor κ (Body (mem (B κ′)) b o γ)) ∷ ‵ (flft κ q) ∷ ‵ (Bytes .own s (sliceVal (s .ptr) (length (s .now)) ∷ [])) ∷ (‵ (flft κ′ q′) ⊛ ‵ ftrue) ∷ []) ∵
       suffices ! _ (ends-at 𝓤 H A hand-out.ended stayed (hand-out.clauses 𝓤 H A at-mem run) W (((κ, (κ′, tt)), (q, (q′, tt)), bounds, x, vals), tt) (R′.lowered (given-out s p)) (given-out s p) (moved (p .next), tt) (tt, tt)) $
-      says ! (refl, hands-out (now (h .log)) (h .at) p (now s) e e′) $
+      says ! (refl, hands-out (now (h .log)) (h .at) p (now s) e (e′ .holds), held-lies (h .log) s (h .at) _ e′) $
       move ! (2 ∷ 4 ∷ []) $ join ! $ frame ! $
       -- [the position as it was last; the borrow; what the row owns]
       feqI ! (List Val) (vptr b o ∷ []) (vptr b o ∷ []) refl $ fjoin3 ! $ nothing ! $ move ! (1 ∷ 0 ∷ []) $ fjoin ! $ frame ! $
@@ -235,7 +240,7 @@ module _ {M : Type 1} (𝓤 : URA M) (H : Heap 𝓤) (A : Atoms 𝓤) (W : Given
         use2 W (raw (PartOf 𝓤 H A at-mem run .pre (to-part (p .end))) ⊛ ‵ Own) (goes-part (p .end) (at-fits was) (end-fits p _ is)) $ split ! $
         calls-at ! fm (PartOf 𝓤 H A at-mem run) known-part (to-part (p .end)) (and-then ! (load ! (from ! (stop !)) (look ! 13 refl)) (and-then ! (load ! (from ! (stop !)) (look ! 11 refl)) (and-then ! (load ! (from ! (fld ! refl (stop !))) (look-in ! 9 (sub ! 1 refl (whole !)))) (no-more !)))) (λ u′.
         use1 W (later (some (λ (s : RefT (List ℕ)). ((‵ (flft κ′ q′) ⊛ ‵ ftrue) ⊛ ‵ (Bytes .own s (u′ ∷ []))) ⊛ raw (ensured 𝓤 H A part.ended (part.clauses 𝓤 H A at-mem run) (κ′, tt) (h .log, (h .at, (p .end, tt))) tt s)))) (id⊢ 𝓤 _) $ await ! tt $ pick ! (λ s.
-        split ! $ move ! (1 ∷ []) $ use1 W (raw (fact 𝓤 (now s ≡ take (p .end - h .at) (drop (h .at) (now (h .log)))))) (said-part (p .end) s) $ heard ! (now s ≡ take (p .end - h .at) (drop (h .at) (now (h .log)))) (λ e′. split ! $ move ! (1 ∷ []) $
+        split ! $ move ! (1 ∷ []) $ use1 W (raw (fact 𝓤 (IsPart (p .end) s))) (said-part (p .end) s) $ heard ! (IsPart (p .end) s) (λ e′. split ! $ move ! (1 ∷ []) $
         -- [what the part owns; the token; what the reader owns; its cell; the open borrow; obs; auth; nothing; room for _5; …; _4; …; _3; …; _2; …; _1; …; room for _0; …]
         peeks ! Bytes (Is Bytes) (shows 𝓤 H A Bytes) s (u′ ∷ []) (λ is′.
         land ! (from ! (stop !)) (init ! 8 refl (shr-slice-lawful 𝓤 H A W erased κ′ u8 .typed s _ is′ .0)) $ rewrite ! 8 (λ (w : Val). ‵ (fat fullShare (sliceTy (tyRef erased imm (tyInt w8))) l₅ 0 w)) (ap only (shr-slice-tells (named 0) κ′ u8 s _ is′)) refl $

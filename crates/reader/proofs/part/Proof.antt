@@ -1,6 +1,6 @@
 -- `reader::part` meets its contract: places outside the log, or not in order, hold between them what the log has there.
 -- Assumes nothing.
-use Rattle.reader.specs.HandingLaws.{part-none, part-past, part-rest}
+use Rattle.reader.specs.HandingLaws.{part-none, part-past, part-rest, part-there}
 use borrow.Author.Needs.{needs}
 use Rattle.reader.proofs.part.Statement.{statement}
 use Rattle.reader.proofs.part.Tie as tie
@@ -51,7 +51,7 @@ part-result-end-4 : tie.Need-part-result-end-4
 part-result-end-4 c = search needs
 
 returns-4 : tie.Need-returns-4
-returns-4 c = search needs
+returns-4 c = search (needs, part-there)
 
 pub part-spec : {M : Type 1} → statement M
 part-spec =

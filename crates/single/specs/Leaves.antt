@@ -1,0 +1,61 @@
+-- The records by which the calls promise: two answers that meet one of them for the same input are equal, and so is every lent
+-- number and byte afterwards. Whatever the definition's answer is, these hold.
+-- Assumes nothing.
+use Prim.Native.Nat.{ℕ}
+use mathlib.Core.Path.{_≡_, sym, _∙_}
+use mathlib.Core.List.{List}
+use denote.Ref.{RefT}
+use Rattle.document.specs.Refusals.{Answer}
+use Rattle.document.specs.Session.{Session, Happened}
+use Rattle.document.specs.Log as document
+use Rattle.rows.specs.Places.{PartAt}
+use Rattle.session.specs.declared.Answered.{Answered}
+use Rattle.session.specs.Calls.{StartLeaves, Leaves}
+use Rattle.log.specs.declared.Ran.{Ran}
+use Rattle.log.specs.Running.{RunLeaves}
+use Rattle.runs.specs.PrintPart.{PrintedTo}
+use Rattle.printing.specs.declared.Printed.{Printed}
+use Rattle.printing.specs.Prints.{PrintLeaves}
+
+-- a part that is given back: its bytes and its place
+pub part-at-single : {lent : RefT (List ℕ)} {start : ℕ} {bytes : List ℕ} {r q : RefT (List ℕ)}
+    → PartAt lent start bytes r → PartAt lent start bytes q → (r .now ≡ q .now) × (r .ptr ≡ q .ptr)
+part-at-single x y = (x .holds ∙ sym (y .holds), x .lies ∙ sym (y .lies))
+
+pub start-leaves-single : {a : Answer Session} {seen kept : List ℕ} {r q : Answered} {seen′ seen″ kept′ kept″ : List ℕ}
+    → StartLeaves a seen kept r seen′ kept′ → StartLeaves a seen kept q seen″ kept″
+    → (r ≡ q) × (seen′ ≡ seen″) × (kept′ ≡ kept″)
+start-leaves-single x y = (x .says ∙ sym (y .says), x .seenLeft ∙ sym (y .seenLeft), x .keptLeft ∙ sym (y .keptLeft))
+
+pub leaves-single : {a : Answer Happened} {s : Session} {reports : List ℕ} {r q : Answered}
+    {seen′ seen″ kept′ kept″ reports′ reports″ : List ℕ}
+    → Leaves a s reports r seen′ kept′ reports′ → Leaves a s reports q seen″ kept″ reports″
+    → (r ≡ q) × (seen′ ≡ seen″) × (kept′ ≡ kept″) × (reports′ ≡ reports″)
+leaves-single x y = (
+  x .says ∙ sym (y .says),
+  x .seenLeft ∙ sym (y .seenLeft),
+  x .keptLeft ∙ sym (y .keptLeft),
+  x .reportsLeft ∙ sym (y .reportsLeft),
+)
+
+pub run-leaves-single : {a : document.Ran} {r q : Ran} {seen′ seen″ kept′ kept″ reports′ reports″ : List ℕ}
+    → RunLeaves a r seen′ kept′ reports′ → RunLeaves a q seen″ kept″ reports″
+    → (r ≡ q) × (seen′ ≡ seen″) × (kept′ ≡ kept″) × (reports′ ≡ reports″)
+run-leaves-single x y = (
+  x .says ∙ sym (y .says),
+  x .seenLeft ∙ sym (y .seenLeft),
+  x .keptLeft ∙ sym (y .keptLeft),
+  x .reportsLeft ∙ sym (y .reportsLeft),
+)
+
+pub print-leaves-single : {refusal : ℕ} {a : PrintedTo} {text : List ℕ} {r q : Printed}
+    {seen′ seen″ kept′ kept″ reports′ reports″ text′ text″ : List ℕ}
+    → PrintLeaves refusal a text r seen′ kept′ reports′ text′ → PrintLeaves refusal a text q seen″ kept″ reports″ text″
+    → (r ≡ q) × (seen′ ≡ seen″) × (kept′ ≡ kept″) × (reports′ ≡ reports″) × (text′ ≡ text″)
+print-leaves-single x y = (
+  x .says ∙ sym (y .says),
+  x .seenLeft ∙ sym (y .seenLeft),
+  x .keptLeft ∙ sym (y .keptLeft),
+  x .reportsLeft ∙ sym (y .reportsLeft),
+  x .textLeft ∙ sym (y .textLeft),
+)
