@@ -60,10 +60,10 @@ pub fn write_folders(seed: u64, count: usize, dir: &Path) -> io::Result<()> {
 pub fn folder(rng: &mut Rng, large: bool) -> Folder {
     let (declared, text) = declarations(rng);
     let size = match rng.below(100) {
-        0..=5 if large => Size::Wide,
-        6..=9 if large => Size::Long,
-        10 if large && rng.chance(30) => Size::Season,
-        11..=18 if large => Size::Edges,
+        0..=3 if large => Size::Wide,
+        4..=5 if large => Size::Long,
+        6 if large && rng.chance(30) => Size::Season,
+        7..=11 if large => Size::Edges,
         _ => Size::Small,
     };
     let damage = size == Size::Small;
