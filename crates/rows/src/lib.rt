@@ -1,5 +1,6 @@
 // Rows of a text, fields of a row, and numbers in fields (document 01, "The declarations", "Log rows and the run").
-// Nothing above this crate speaks of commas or line ends. The face: `field`.
+// Nothing above this crate speaks of line ends, and of commas only `entries`, which counts a log row's fields by them in the
+// pass that it makes for barred bytes. The face: `field`.
 //
 //     field(b"feed,1,7", 2) is the part `7` of the row; field(b"feed,1,7", 3) is the empty part at its start.
 ghost use mathlib.Core.Path.{_≡_};
