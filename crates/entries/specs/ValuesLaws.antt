@@ -40,45 +40,45 @@ not-barred b h =
 
 -- The turns of the loop that counts a row's fields: no byte so far is barred, and the commas that are left are the fields after
 -- those counted.
-pub record Counts (row : List ℕ) (count i : ℕ) : Type 0 where
+pub record Counting (row : List ℕ) (count i : ℕ) : Type 0 where
   pub clean : some isBarred (drop i row) ≡ some isBarred row
   pub counted : count + commas (drop i row) ≡ length (fields row)
   pub small : count ≤ i + 1
 
-pub counts-begin : (row : List ℕ) → Counts row 1 0
-counts-begin row = let n = fields-count row in record { clean = refl; counted = omega arith; small = omega arith }
+pub counting-begin : (row : List ℕ) → Counting row 1 0
+counting-begin row = let n = fields-count row in record { clean = refl; counted = omega arith; small = omega arith }
 
-module _ (row : List ℕ) (count i : ℕ) (g : Counts row count i) where
-  pub counts-end : length row ≤ i → count ≡ cond (some isBarred row) 0 (length (fields row))
-  counts-end h =
+module _ (row : List ℕ) (count i : ℕ) (g : Counting row count i) where
+  pub counting-end : length row ≤ i → count ≡ cond (some isBarred row) 0 (length (fields row))
+  counting-end h =
       let z = commas-over row i h in
       let n : count ≡ length (fields row) = let c = g .counted in omega arith in
       rw (sym (g .clean) ∙ some-over isBarred row i h) n
 
   module _ (h : i < length row) where
-    pub counts-barred : (x : Bool) → x ≡ isBarred (getD row i 0) → x ≡ true
+    pub counting-barred : (x : Bool) → x ≡ isBarred (getD row i 0) → x ≡ true
         → 0 ≡ cond (some isBarred row) 0 (length (fields row))
-    counts-barred x q t = rw (sym (g .clean) ∙ some-found isBarred row i h (sym q ∙ t))
+    counting-barred x q t = rw (sym (g .clean) ∙ some-found isBarred row i h (sym q ∙ t))
 
     -- a byte that is neither barred nor a comma
-    counts-on : isBarred (getD row i 0) ≡ false → (getD row i 0 ≡ comma → ⊥) → Counts row count (i + 1)
-    counts-on f n =
+    counting-on : isBarred (getD row i 0) ≡ false → (getD row i 0 ≡ comma → ⊥) → Counting row count (i + 1)
+    counting-on f n =
         let z = commas-later row i h n in
         let c = g .counted in
         let s = g .small in
         record { clean = sym (some-goes-on isBarred row i h f) ∙ g .clean; counted = omega arith; small = omega arith }
 
-    pub counts-low : (x : Bool) → x ≡ isBarred (getD row i 0) → x ≡ false → getD row i 0 ≤ quote → Counts row count (i + 1)
-    counts-low x q f l = counts-on (sym q ∙ f) (λ (z : getD row i 0 ≡ comma). omega arith)
+    pub counting-low : (x : Bool) → x ≡ isBarred (getD row i 0) → x ≡ false → getD row i 0 ≤ quote → Counting row count (i + 1)
+    counting-low x q f l = counting-on (sym q ∙ f) (λ (z : getD row i 0 ≡ comma). omega arith)
 
-    pub counts-other : quote < getD row i 0 → (getD row i 0 ≡ comma → ⊥) → Counts row count (i + 1)
-    counts-other l n = counts-on (not-barred (getD row i 0) l) n
+    pub counting-other : quote < getD row i 0 → (getD row i 0 ≡ comma → ⊥) → Counting row count (i + 1)
+    counting-other l n = counting-on (not-barred (getD row i 0) l) n
 
-    pub counts-high : zeroByte ≤ getD row i 0 → Counts row count (i + 1)
-    counts-high l = counts-on (not-barred (getD row i 0) (omega arith)) (λ (z : getD row i 0 ≡ comma). omega arith)
+    pub counting-high : zeroByte ≤ getD row i 0 → Counting row count (i + 1)
+    counting-high l = counting-on (not-barred (getD row i 0) (omega arith)) (λ (z : getD row i 0 ≡ comma). omega arith)
 
-    pub counts-comma : getD row i 0 ≡ comma → Counts row (count + 1) (i + 1)
-    counts-comma e =
+    pub counting-comma : getD row i 0 ≡ comma → Counting row (count + 1) (i + 1)
+    counting-comma e =
         let z = commas-here row i h e in
         let c = g .counted in
         let s = g .small in
