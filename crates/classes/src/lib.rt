@@ -1,7 +1,7 @@
 // The class of a byte, read from one table of 256 classes (document 01, "The declarations").
-// Whatever asks what a byte is goes through it: names, decimal numbers, tokens.
+// Whatever asks for a byte's class goes through it: names and tokens. (The crate `rows` tells the digits of a value by range.)
 ghost use mathlib.Core.Path.{_≡_};
-ghost use Rattle.document.specs.Classes.{classOf, isLetter, isDigit, isBlank, isNameByte};
+ghost use Rattle.document.specs.Classes.{classOf, isLetter, isBlank, isNameByte};
 
 pub const LETTER: u8 = 0;
 
@@ -296,12 +296,6 @@ pub fn is_letter(b: u8) -> bool
     ensures { λ r. ⌜ r ≡ isLetter b ⌝ }
 {
     class_of(b) == LETTER
-}
-
-pub fn is_digit(b: u8) -> bool
-    ensures { λ r. ⌜ r ≡ isDigit b ⌝ }
-{
-    class_of(b) == DIGIT
 }
 
 pub fn is_blank(b: u8) -> bool

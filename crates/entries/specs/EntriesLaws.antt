@@ -1,26 +1,23 @@
 -- What each test of a row decides: 18, 19, 20, 21, or the event and its values.
 -- Assumes nothing.
-use Prim.Native.Nat.{ℕ, zero, suc, _+_, _-_, _≤_, _<_}
+use Prim.Native.Nat.{ℕ, _+_, _-_, _≤_, _<_}
 use mathlib.Core.Path.{_≡_, refl, sym, ap, _∙_}
-use mathlib.Core.Logic.{_⊎_, inl, inr}
-use mathlib.Core.Bool.{Bool, true, false, not, cond, _&&_, _||_}
-use mathlib.Core.List.{List, [], _∷_}
-use lib.ListN.{length, getD, drop, set, replicate, length-drop}
+use mathlib.Core.Bool.{Bool, true, false, not, cond, _||_}
+use mathlib.Core.List.{List, []}
+use lib.ListN.{length, getD, take, drop, set, replicate, length-drop}
 use lib.Seq.{getD-drop}
-use lib.Dec.{eqb, ltb, leb}
+use lib.Dec.{eqb, ltb}
 use native.Mathlib.Omega.{arith}
-use borrow.Author.Tests.{eq-eqb, ne-eqb, lt-ltb, le-ltb, le-leb, lt-leb, leb-true, leb-false, not-true, not-false}
+use borrow.Author.Tests.{eq-eqb, ne-eqb, lt-ltb, le-ltb, le-leb, lt-leb, not-true, not-false}
 use Rattle.document.specs.Lists.{some, placeOf}
 use Rattle.document.specs.Limits.{width, rowBytes}
-use Rattle.document.specs.Refusals.{number, badRow, unknownEvent, badValue, wrongFields, Answer, taken, refused}
 use Rattle.document.specs.Rows.{fields, field, valueOf}
 use Rattle.document.specs.Declarations.{Declared}
 use Rattle.document.specs.Combinations.{bindsExactly}
 use Rattle.document.specs.Log.{isBadValue, valuesOf, rowEvent}
-use Rattle.rows.specs.RowsLaws.{split-bool}
-use Rattle.rows.specs.Split.{Split, mostFields}
-use Rattle.rows.specs.FieldsLaws.{split-counts, fields-some}
-use Rattle.rows.specs.declared.Fields.{Fields}
+use Rattle.rows.specs.Split.{upToComma}
+use Rattle.rows.specs.FieldsLaws.{fields-some}
+use Rattle.rows.specs.FieldsInTurn.{Reached, reached-first, reached-comma, reached-next, next-within, next-part}
 use Rattle.entries.specs.declared.Entry.{Entry}
 use Rattle.entries.specs.declared.Value.{Value}
 use Rattle.entries.specs.declared.Values.{Values}
@@ -30,43 +27,50 @@ use Rattle.entries.specs.ValuesLaws.{value-good, value-none, value-bad, 
 abbrev pub refusedEntry : ℕ → Entry
 refusedEntry q = record { refusal = q; event = 0; values = replicate 4 0 }
 
--- the fields after the first are as many as the parameters
-pub fields-right : (row : List ℕ) (f : Fields) (n : ℕ) → Split row f → f .count ≡ n + 1 → n ≤ 4 → length (drop 1 (fields row)) ≡ n
-fields-right row f n s e h = let c = split-counts row f s .few (omega arith) in rw length-drop (omega arith)
+-- what the count of the fields says of the row: where it is not 0, no byte is barred and the count is right
+module _ (row : List ℕ) (m : ℕ) (q : m ≡ cond (some isBarred row) 0 (length (fields row))) (n : ℕ) (c : m ≡ n + 1) where
+  counted : (b : Bool) → m ≡ cond b 0 (length (fields row)) → (b ≡ false) × (length (fields row) ≡ n + 1)
+  counted true e = absurd (omega arith)
+  counted false e = (refl, omega arith)
 
-fields-wrong : (row : List ℕ) (f : Fields) (n : ℕ) → Split row f → (f .count ≡ n + 1 → ⊥) → n ≤ 4 → length (drop 1 (fields row)) ≡ n → ⊥
-fields-wrong row f n s e h q = go (split-bool (leb (f .count) mostFields))
+  pub count-clean : some isBarred row ≡ false
+  count-clean = counted (some isBarred row) q .0
+
+  pub count-right : length (fields row) ≡ n + 1
+  count-right = counted (some isBarred row) q .1
+
+-- and where it is another than the declarations ask for, the row is refused
+count-wrong : (row : List ℕ) (m n : ℕ) (b : Bool) → m ≡ cond b 0 (length (fields row)) → (m ≡ n + 1 → ⊥)
+    → (b || not (eqb (length (drop 1 (fields row))) n)) ≡ true
+count-wrong row m n true q c = refl
+count-wrong row m n false q c = rw (ne-eqb (length (drop 1 (fields row))) n other)
   where
-    k : length (fields row) - 1 ≡ n
-    k = rw length-drop at q
+    other : length (drop 1 (fields row)) ≡ n → ⊥
+    other e = let k : length (fields row) - 1 ≡ n = rw length-drop at e in let o = fields-some row in c (omega (arith, k))
 
-    go : (leb (f .count) mostFields ≡ true) ⊎ (leb (f .count) mostFields ≡ false) → ⊥
-    go (inl t) = let c = split-counts row f s .few (leb-true (f .count) mostFields t) in let o = fields-some row in e (omega (arith, k))
-    go (inr t) = let c = split-counts row f s .many (leb-false (f .count) mostFields t) in omega (arith, k)
+-- the fields after the first are as many as the parameters
+rest-right : (row : List ℕ) (n : ℕ) → length (fields row) ≡ n + 1 → length (drop 1 (fields row)) ≡ n
+rest-right row n e = rw length-drop (omega arith)
 
-module _ (d : Declared) (row : List ℕ) (n : ℕ) (p : length (d .parameters) ≡ n) (h : n ≤ 4) where
+module _ (d : Declared) (row : List ℕ) (n : ℕ) (p : length (d .parameters) ≡ n) where
   pub entry-long : (r : Entry) → r ≡ refusedEntry 18 → rowBytes < length row → r ≡ entryOf (rowEvent d row)
   unfolding rowEvent entryOf
   entry-long r e l = e ∙ rw (lt-ltb rowBytes (length row) l)
 
-  pub entry-barred : (r : Entry) → r ≡ refusedEntry 18 → length row ≤ rowBytes → (b : Bool) → b ≡ some isBarred row → b ≡ true
-      → r ≡ entryOf (rowEvent d row)
-  unfolding rowEvent entryOf
-  entry-barred r e l b q t = e ∙ rw (le-ltb rowBytes (length row) l, sym q ∙ t)
-
-  module _ (l : length row ≤ rowBytes) (b : Bool) (q : b ≡ some isBarred row) (t : b ≡ false) (f : Fields) (s : Split row f) where
-    pub entry-fields : (r : Entry) → r ≡ refusedEntry 18 → (f .count ≡ n + 1 → ⊥) → r ≡ entryOf (rowEvent d row)
+  module _ (l : length row ≤ rowBytes) (m : ℕ) (q : m ≡ cond (some isBarred row) 0 (length (fields row))) where
+    pub entry-fields : (r : Entry) → r ≡ refusedEntry 18 → (m ≡ n + 1 → ⊥) → r ≡ entryOf (rowEvent d row)
     unfolding rowEvent entryOf
-    entry-fields r e c =
-        e ∙ rw (le-ltb rowBytes (length row) l, sym q ∙ t, p, ne-eqb (length (drop 1 (fields row))) n (fields-wrong row f n s c h))
+    entry-fields r e c = e ∙ rw (le-ltb rowBytes (length row) l, p, count-wrong row m n (some isBarred row) q c)
 
-    module _ (c : f .count ≡ n + 1) (name : List ℕ) (m : name ≡ field row 0) (event : ℕ) (at : event ≡ placeOf name (d .events)) where
+    module _ (c : m ≡ n + 1) (name : List ℕ) (w : name ≡ field row 0) (event : ℕ) (at : event ≡ placeOf name (d .events)) where
       shape : (ltb rowBytes (length row) || some isBarred row || not (eqb (length (drop 1 (fields row))) (length (d .parameters)))) ≡ false
-      shape = rw (le-ltb rowBytes (length row) l, sym q ∙ t, p, eq-eqb (length (drop 1 (fields row))) n (fields-right row f n s c h))
+      shape =
+          let k = rest-right row n (count-right row m q n c) in
+          rw (le-ltb rowBytes (length row) l, count-clean row m q n c, p, eq-eqb (length (drop 1 (fields row))) n k)
 
       place : placeOf (getD (fields row) 0 []) (d .events) ≡ event
       unfolding field
-      place = sym (at ∙ ap (λ x. placeOf x (d .events)) m)
+      place = sym (at ∙ ap (λ x. placeOf x (d .events)) w)
 
       pub entry-unknown : (r : Entry) → r ≡ refusedEntry 19 → length (d .events) ≤ event → r ≡ entryOf (rowEvent d row)
       unfolding rowEvent entryOf
@@ -115,49 +119,75 @@ pub said-bad : (f : List ℕ) (v : ℕ) → v ≡ valueOf f → v ≡ 0 → (len
     → _≡_ {A = Value} (record { bad = true; value = 0 }) (record { bad = isBadValue f; value = valueOf f })
 said-bad f v e z n = λ i. record { bad = value-bad f v e z n i; value = (sym z ∙ e) i }
 
--- The turns of the loop over the fields of a row after the first.
-pub record Reading (row values : List ℕ) (n k : ℕ) : Type 0 where
+-- The turns of the loop over the fields of a row after the first: the field before those that are left ends at `end`.
+pub record Reading (row values : List ℕ) (n k end : ℕ) : Type 0 where
   pub takes : Takes (drop 1 (fields row)) values k
-  pub count : length (drop 1 (fields row)) ≡ n
+  pub reached : Reached row k end
+  pub count : length (fields row) ≡ n + 1
   pub within : k ≤ n
   pub few : n ≤ 4
 
-pub reading-begins : (row : List ℕ) (f : Fields) (n : ℕ) → Split row f → f .count ≡ n + 1 → n ≤ 4 → Reading row (replicate 4 0) n 0
-reading-begins row f n s e h = record { takes = takes-begin (drop 1 (fields row)); count = fields-right row f n s e h; within = omega arith; few = h }
+pub reading-begins : (row : List ℕ) (end n : ℕ) → end ≡ upToComma row → length (fields row) ≡ n + 1 → n ≤ 4
+    → Reading row (replicate 4 0) n 0 end
+reading-begins row end n e c h = record {
+  takes = takes-begin (drop 1 (fields row));
+  reached = reached-first row end e;
+  count = c;
+  within = omega arith;
+  few = h;
+}
 
 field-next : (row : List ℕ) (k : ℕ) → getD (drop 1 (fields row)) k [] ≡ field row (k + 1)
 unfolding field
 field-next row k = let e : 1 + k ≡ k + 1 = omega arith in rw (getD-drop 1 (fields row) k [], e)
 
-module _ (row values : List ℕ) (n k : ℕ) (g : Reading row values n k) (h : k < n) (part : List ℕ) (q : part ≡ field row (k + 1))
-    (v : Value) (e : v ≡ record { bad = isBadValue part; value = valueOf part }) where
-  here : part ≡ getD (drop 1 (fields row)) k []
-  here = q ∙ sym (field-next row k)
+module _ (row values : List ℕ) (n k end : ℕ) (g : Reading row values n k end) (h : k < n) where
+  follows : k + 1 < length (fields row)
+  follows = let c = g .count in omega arith
 
-  pub reading-bad : v .bad ≡ true → _≡_ {A = Values} (record { bad = true; values = replicate 4 0 }) (valuesSaid (drop 1 (fields row)))
-  unfolding valuesSaid
-  reading-bad t =
-      let b : true ≡ isBadValue (getD (drop 1 (fields row)) k []) = sym t ∙ ap (λ x. x .bad) e ∙ ap isBadValue here in
-      rw (takes-bad (drop 1 (fields row)) values k (g .takes) (let c = g .count in omega arith) b)
+  pub reading-comma : end < length row
+  reading-comma = reached-comma row k end (g .reached) follows
 
-  pub reading-more : v .bad ≡ false → Reading row (set values k (v .value)) n (k + 1)
-  reading-more t =
-      let b : false ≡ isBadValue (getD (drop 1 (fields row)) k []) = sym t ∙ ap (λ x. x .bad) e ∙ ap isBadValue here in
-      let w : v .value ≡ valueOf (getD (drop 1 (fields row)) k []) = ap (λ x. x .value) e ∙ ap valueOf here in
-      let c = g .count in
-      let l = g .few in
-      record {
-        takes = takes-more (drop 1 (fields row)) values k (v .value) (g .takes) (omega arith) (omega arith) b w;
-        count = g .count;
-        within = omega arith;
-        few = g .few;
-      }
+  module _ (end′ : ℕ) (f : end′ ≡ end + 1 + upToComma (drop (end + 1) row)) where
+    abbrev part : List ℕ
+    part = take (end′ - (end + 1)) (drop (end + 1) row)
 
-pub reading-ends : (row values : List ℕ) (n k : ℕ) → Reading row values n k → n ≤ k
+    pub reading-within : (end + 1 ≤ end′) × (end′ ≤ length row)
+    reading-within = next-within row k end end′ (g .reached) follows f
+
+    module _ (v : Value) (e : v ≡ record { bad = isBadValue part; value = valueOf part }) where
+      here : part ≡ getD (drop 1 (fields row)) k []
+      here = next-part row k end end′ (g .reached) follows f ∙ sym (field-next row k)
+
+      rest : length (drop 1 (fields row)) ≡ n
+      rest = rest-right row n (g .count)
+
+      pub reading-bad : v .bad ≡ true → _≡_ {A = Values} (record { bad = true; values = replicate 4 0 }) (valuesSaid (drop 1 (fields row)))
+      unfolding valuesSaid
+      reading-bad t =
+          let b : true ≡ isBadValue (getD (drop 1 (fields row)) k []) = sym t ∙ ap (λ x. x .bad) e ∙ ap isBadValue here in
+          let c = rest in
+          rw (takes-bad (drop 1 (fields row)) values k (g .takes) (omega arith) b)
+
+      pub reading-more : v .bad ≡ false → Reading row (set values k (v .value)) n (k + 1) end′
+      reading-more t =
+          let b : false ≡ isBadValue (getD (drop 1 (fields row)) k []) = sym t ∙ ap (λ x. x .bad) e ∙ ap isBadValue here in
+          let w : v .value ≡ valueOf (getD (drop 1 (fields row)) k []) = ap (λ x. x .value) e ∙ ap valueOf here in
+          let c = rest in
+          let l = g .few in
+          record {
+            takes = takes-more (drop 1 (fields row)) values k (v .value) (g .takes) (omega arith) (omega arith) b w;
+            reached = reached-next row k end end′ (g .reached) follows f;
+            count = g .count;
+            within = omega arith;
+            few = g .few;
+          }
+
+pub reading-ends : (row values : List ℕ) (n k end : ℕ) → Reading row values n k end → n ≤ k
     → _≡_ {A = Values} (record { bad = false; values = values }) (valuesSaid (drop 1 (fields row)))
 unfolding valuesSaid
-reading-ends row values n k g h =
-    let c = g .count in
+reading-ends row values n k end g h =
+    let c = rest-right row n (g .count) in
     let w = g .within in
     let l = g .few in
     let e : length (drop 1 (fields row)) ≡ k = omega arith in

@@ -1,56 +1,59 @@
 -- The same for declarations whose event names stand at places of a text, as the code holds them.
 -- Assumes nothing.
-use Prim.Native.Nat.{ℕ, _+_, _≤_, _<_}
+use Prim.Native.Nat.{ℕ, _+_, _-_, _≤_, _<_}
 use mathlib.Core.Path.{_≡_, sym, ap, _∙_}
-use mathlib.Core.Bool.{Bool, true, false, not}
+use mathlib.Core.Bool.{Bool, true, false, not, cond}
 use mathlib.Core.List.{List, []}
 use lib.ListN.{length, getD, take, drop, length-replicate}
 use lib.Seq.{getD-take}
+use native.Mathlib.Omega.{arith}
 use Rattle.document.specs.Lists.{some, placeOf}
 use Rattle.document.specs.Limits.{rowBytes}
 use Rattle.document.specs.Rows.{fields, field}
 use Rattle.document.specs.Combinations.{bindsExactly}
 use Rattle.document.specs.Log.{rowEvent}
-use Rattle.rows.specs.Split.{Split}
-use Rattle.rows.specs.declared.Fields.{Fields}
+use Rattle.rows.specs.Split.{upToComma}
+use Rattle.rows.specs.SplitLaws.{walk-begins, walk-ends}
 use Rattle.declared.specs.Readings.{namesAt}
 use Rattle.slices.specs.ListsLaws.{length-tabulate}
 use Rattle.entries.specs.declared.Entry.{Entry}
 use Rattle.entries.specs.declared.Values.{Values}
 use Rattle.entries.specs.Entries.{isBarred, valuesSaid, declaredAt, entryOf}
-use Rattle.entries.specs.EntriesLaws.{refusedEntry, entry-long, entry-barred, entry-fields, entry-unknown, entry-bad, entry-wrong, entry-right}
+use Rattle.entries.specs.EntriesLaws.{refusedEntry, entry-long, entry-fields, entry-unknown, entry-bad, entry-wrong, entry-right}
 
 names-count : (text : List ℕ) (n : ℕ) (starts sizes : List ℕ) → length (namesAt text n starts sizes) ≡ n
 unfolding namesAt
 names-count text n starts sizes = length-tabulate n (λ k. take (getD sizes k 0) (drop (getD starts k 0) text))
 
-module _ (text starts sizes sets row : List ℕ) (events n : ℕ) (h : n ≤ 4) where
+-- the event's name is the part of the row up to its first comma
+first-field : (row : List ℕ) (end : ℕ) → end ≡ 0 + upToComma (drop 0 row) → take (end - 0) (drop 0 row) ≡ field row 0
+first-field row end e = walk-ends row 0 0 end 0 (walk-begins row 0 end e) (omega arith)
+
+module _ (text starts sizes sets row : List ℕ) (events n : ℕ) where
   pub row-long : (r : Entry) → r ≡ refusedEntry 18 → rowBytes < length row → r ≡ entryOf (rowEvent (declaredAt text starts sizes sets events n) row)
   unfolding declaredAt
-  row-long r e l = entry-long (declaredAt text starts sizes sets events n) row n (length-replicate n []) h r e l
+  row-long r e l = entry-long (declaredAt text starts sizes sets events n) row n (length-replicate n []) r e l
 
-  pub row-barred : (r : Entry) → r ≡ refusedEntry 18 → length row ≤ rowBytes → (b : Bool) → b ≡ some isBarred row → b ≡ true
-      → r ≡ entryOf (rowEvent (declaredAt text starts sizes sets events n) row)
-  unfolding declaredAt
-  row-barred r e l b q t = entry-barred (declaredAt text starts sizes sets events n) row n (length-replicate n []) h r e l b q t
-
-  module _ (l : length row ≤ rowBytes) (b : Bool) (q : b ≡ some isBarred row) (t : b ≡ false) (f : Fields) (s : Split row f) where
-    pub row-fields : (r : Entry) → r ≡ refusedEntry 18 → (f .count ≡ n + 1 → ⊥) → r ≡ entryOf (rowEvent (declaredAt text starts sizes sets events n) row)
+  module _ (l : length row ≤ rowBytes) (m : ℕ) (q : m ≡ cond (some isBarred row) 0 (length (fields row))) where
+    pub row-fields : (r : Entry) → r ≡ refusedEntry 18 → (m ≡ n + 1 → ⊥) → r ≡ entryOf (rowEvent (declaredAt text starts sizes sets events n) row)
     unfolding declaredAt
-    row-fields r e c = entry-fields (declaredAt text starts sizes sets events n) row n (length-replicate n []) h l b q t f s r e c
+    row-fields r e c = entry-fields (declaredAt text starts sizes sets events n) row n (length-replicate n []) l m q r e c
 
-    module _ (c : f .count ≡ n + 1) (name : List ℕ) (m : name ≡ field row 0) (event : ℕ) (at : event ≡ placeOf name (namesAt text events starts sizes)) where
+    module _ (c : m ≡ n + 1) (end : ℕ) (f : end ≡ 0 + upToComma (drop 0 row))
+        (event : ℕ) (at : event ≡ placeOf (take (end - 0) (drop 0 row)) (namesAt text events starts sizes)) where
       pub row-unknown : (r : Entry) → r ≡ refusedEntry 19 → events ≤ event → r ≡ entryOf (rowEvent (declaredAt text starts sizes sets events n) row)
       unfolding declaredAt
       row-unknown r e g =
-          entry-unknown (declaredAt text starts sizes sets events n) row n (length-replicate n []) h l b q t f s c name m event at r e
+          entry-unknown (declaredAt text starts sizes sets events n) row n (length-replicate n []) l m q c
+          (take (end - 0) (drop 0 row)) (first-field row end f) event at r e
           (rw (names-count text events starts sizes) g)
 
       module _ (g : event < events) (v : Values) (said : v ≡ valuesSaid (drop 1 (fields row))) where
         pub row-bad : (r : Entry) → r ≡ refusedEntry 20 → v .bad ≡ true → r ≡ entryOf (rowEvent (declaredAt text starts sizes sets events n) row)
         unfolding declaredAt
         row-bad r e u =
-            entry-bad (declaredAt text starts sizes sets events n) row n (length-replicate n []) h l b q t f s c name m event at
+            entry-bad (declaredAt text starts sizes sets events n) row n (length-replicate n []) l m q c
+            (take (end - 0) (drop 0 row)) (first-field row end f) event at
             (rw (names-count text events starts sizes) g) v said r e u
 
         module _ (u : v .bad ≡ false) (set : ℕ) (w : set ≡ getD sets event 0) (x : Bool) (y : x ≡ bindsExactly set (v .values)) where
@@ -60,12 +63,14 @@ module _ (text starts sizes sets row : List ℕ) (events n : ℕ) (h : n ≤ 4) 
           pub row-wrong : (r : Entry) → r ≡ refusedEntry 21 → not x ≡ true → r ≡ entryOf (rowEvent (declaredAt text starts sizes sets events n) row)
           unfolding declaredAt
           row-wrong r e z =
-              entry-wrong (declaredAt text starts sizes sets events n) row n (length-replicate n []) h l b q t f s c name m event at
+              entry-wrong (declaredAt text starts sizes sets events n) row n (length-replicate n []) l m q c
+              (take (end - 0) (drop 0 row)) (first-field row end f) event at
               (rw (names-count text events starts sizes) g) v said u x binds r e z
 
           pub row-right : not x ≡ false → _≡_ {A = Entry} (record { refusal = 0; event = event; values = v .values })
               (entryOf (rowEvent (declaredAt text starts sizes sets events n) row))
           unfolding declaredAt
           row-right z =
-              entry-right (declaredAt text starts sizes sets events n) row n (length-replicate n []) h l b q t f s c name m event at
+              entry-right (declaredAt text starts sizes sets events n) row n (length-replicate n []) l m q c
+              (take (end - 0) (drop 0 row)) (first-field row end f) event at
               (rw (names-count text events starts sizes) g) v said u x binds z

@@ -2,42 +2,88 @@
 -- Assumes nothing.
 use Prim.Native.Nat.{ℕ, zero, suc, _+_, _-_, _≤_, _<_, min}
 use mathlib.Core.Path.{_≡_, refl, sym, ap, _∙_}
-use mathlib.Core.Logic.{_⊎_, inl, inr}
-use mathlib.Core.Bool.{Bool, true, false, not, cond, _&&_, _||_}
+use mathlib.Core.Logic.{inl, inr}
+use mathlib.Core.Bool.{Bool, true, false, not, cond, _&&_}
 use mathlib.Core.List.{List, [], _∷_, _++_}
 use mathlib.Core.List as list
-use lib.ListN.{length, getD, take, drop, set, replicate, length-set, length-append, length-replicate, length-take, getD-replicate, List·getD-append, List·getD-eq-default, drop-of-length-le}
-use lib.Seq.{drop-cons, ext-getD, getD-take, getD-set-same, getD-set-other, getD-append-add}
+use lib.ListN.{length, getD, take, drop, set, replicate, length-set, length-append, length-take, List·getD-append, drop-of-length-le}
+use lib.Seq.{drop-cons, ext-getD, getD-take, getD-set-same, getD-set-other}
 use lib.Dec.{eqb, ltb}
 use native.Mathlib.Omega.{arith}
 use native.Mathlib.Numerals.{add-one}
 use borrow.Author.Tests.{eq-eqb, ne-eqb, eqb-true, eqb-false, ltb-true, ltb-false}
 use Rattle.document.specs.Lists.{some, equal}
 use Rattle.document.specs.Limits.{width}
-use Rattle.document.specs.Classes.{cr, lf, quote}
-use Rattle.document.specs.Rows.{valueOf}
+use Rattle.document.specs.Classes.{cr, lf, quote, comma, zeroByte}
+use Rattle.document.specs.Rows.{fields, valueOf}
 use Rattle.document.specs.Log.{isBadValue, valuesOf}
 use Rattle.entries.specs.Entries.{isBarred}
 use Rattle.rows.specs.RowsLaws.{some-over, some-found, some-goes-on, split-bool}
+use Rattle.rows.specs.FieldsInTurn.{commas, commas-here, commas-later, commas-over, fields-count}
 
--- The turns of the loop that looks for a byte that no row may hold.
-module _ (s : List ℕ) (i : ℕ) (q : some isBarred (drop i s) ≡ some isBarred s) where
-  pub barred-cr : i < length s → getD s i 0 ≡ cr → true ≡ some isBarred s
-  barred-cr h e = sym (some-found isBarred s i h (rw e)) ∙ q
+-- A byte that no row may hold.
+pub barred-cr : (b : ℕ) → b ≡ cr → true ≡ isBarred b
+barred-cr b e = rw e
 
-  pub barred-lf : i < length s → getD s i 0 ≡ lf → true ≡ some isBarred s
-  barred-lf h e = sym (some-found isBarred s i h (rw e)) ∙ q
+pub barred-lf : (b : ℕ) → b ≡ lf → true ≡ isBarred b
+barred-lf b e = rw e
 
-  pub barred-quote : i < length s → getD s i 0 ≡ quote → true ≡ some isBarred s
-  barred-quote h e = sym (some-found isBarred s i h (rw e)) ∙ q
+pub barred-quote : (b : ℕ) → (b ≡ cr → ⊥) → (b ≡ lf → ⊥) → eqb b quote ≡ isBarred b
+barred-quote b n m = rw (ne-eqb b cr n, ne-eqb b lf m)
 
-  pub barred-turn : i < length s → (getD s i 0 ≡ cr → ⊥) → (getD s i 0 ≡ lf → ⊥) → (getD s i 0 ≡ quote → ⊥)
-      → some isBarred (drop (i + 1) s) ≡ some isBarred s
-  barred-turn h n m k =
-      sym (some-goes-on isBarred s i h (rw (ne-eqb (getD s i 0) cr n, ne-eqb (getD s i 0) lf m, ne-eqb (getD s i 0) quote k))) ∙ q
+not-barred : (b : ℕ) → quote < b → isBarred b ≡ false
+not-barred b h =
+    let not-cr : (b ≡ cr → ⊥) = λ (z : b ≡ cr). omega arith in
+    let not-lf : (b ≡ lf → ⊥) = λ (z : b ≡ lf). omega arith in
+    let not-quote : (b ≡ quote → ⊥) = λ (z : b ≡ quote). omega arith in
+    rw (ne-eqb b cr not-cr, ne-eqb b lf not-lf, ne-eqb b quote not-quote)
 
-  pub barred-over : length s ≤ i → false ≡ some isBarred s
-  barred-over h = sym (some-over isBarred s i h) ∙ q
+-- The turns of the loop that counts a row's fields: no byte so far is barred, and the commas that are left are the fields after
+-- those counted.
+pub record Counting (row : List ℕ) (count i : ℕ) : Type 0 where
+  pub clean : some isBarred (drop i row) ≡ some isBarred row
+  pub counted : count + commas (drop i row) ≡ length (fields row)
+  pub small : count ≤ i + 1
+
+pub counting-begin : (row : List ℕ) → Counting row 1 0
+counting-begin row = let n = fields-count row in record { clean = refl; counted = omega arith; small = omega arith }
+
+module _ (row : List ℕ) (count i : ℕ) (g : Counting row count i) where
+  pub counting-end : length row ≤ i → count ≡ cond (some isBarred row) 0 (length (fields row))
+  counting-end h =
+      let z = commas-over row i h in
+      let n : count ≡ length (fields row) = let c = g .counted in omega arith in
+      rw (sym (g .clean) ∙ some-over isBarred row i h) n
+
+  module _ (h : i < length row) where
+    pub counting-barred : (x : Bool) → x ≡ isBarred (getD row i 0) → x ≡ true
+        → 0 ≡ cond (some isBarred row) 0 (length (fields row))
+    counting-barred x q t = rw (sym (g .clean) ∙ some-found isBarred row i h (sym q ∙ t))
+
+    -- a byte that is neither barred nor a comma
+    counting-on : isBarred (getD row i 0) ≡ false → (getD row i 0 ≡ comma → ⊥) → Counting row count (i + 1)
+    counting-on f n =
+        let z = commas-later row i h n in
+        let c = g .counted in
+        let s = g .small in
+        record { clean = sym (some-goes-on isBarred row i h f) ∙ g .clean; counted = omega arith; small = omega arith }
+
+    pub counting-low : (x : Bool) → x ≡ isBarred (getD row i 0) → x ≡ false → getD row i 0 ≤ quote → Counting row count (i + 1)
+    counting-low x q f l = counting-on (sym q ∙ f) (λ (z : getD row i 0 ≡ comma). omega arith)
+
+    pub counting-other : quote < getD row i 0 → (getD row i 0 ≡ comma → ⊥) → Counting row count (i + 1)
+    counting-other l n = counting-on (not-barred (getD row i 0) l) n
+
+    pub counting-high : zeroByte ≤ getD row i 0 → Counting row count (i + 1)
+    counting-high l = counting-on (not-barred (getD row i 0) (omega arith)) (λ (z : getD row i 0 ≡ comma). omega arith)
+
+    pub counting-comma : getD row i 0 ≡ comma → Counting row (count + 1) (i + 1)
+    counting-comma e =
+        let z = commas-here row i h e in
+        let c = g .counted in
+        let s = g .small in
+        let n = not-barred (getD row i 0) (omega arith) in
+        record { clean = sym (some-goes-on isBarred row i h n) ∙ g .clean; counted = omega arith; small = omega arith }
 
 -- What one field says: a value, nothing, or neither.
 empty-length : (f : List ℕ) → length f ≡ 0 → equal f [] ≡ true

@@ -1,14 +1,14 @@
 // A row of a log: its event and values, or the refusal (document 01, "Log rows and the run"; refusals 18 to 21).
 // Interior: the calls of the crate `log` judge the declarations once and read each row with it.
 ghost use mathlib.Core.Path.{_≡_};
-ghost use mathlib.Core.List.{List};
-ghost use Prim.Native.Nat.{ℕ, suc, _+_, _≤_};
+ghost use mathlib.Core.Bool.{cond};
+ghost use Prim.Native.Nat.{_+_, _≤_};
 ghost use lib.ListN.{length, drop};
 ghost use Rattle.document.specs.Lists.{some};
 ghost use Rattle.document.specs.Limits.{mostEvents};
 ghost use Rattle.document.specs.Rows.{fields, valueOf};
 ghost use Rattle.document.specs.Log.{isBadValue, rowEvent};
-ghost use Rattle.rows.specs.Split.{Split};
+ghost use Rattle.rows.specs.Split.{upToComma};
 ghost use Rattle.declared.specs.Readings.{Inside};
 ghost use Rattle.entries.specs.Entries.{isBarred, valuesSaid, declaredAt, entryOf};
 
@@ -19,6 +19,10 @@ const CR: u8 = 13;
 const LF: u8 = 10;
 
 const QUOTE: u8 = 34;
+
+const COMMA: u8 = 44;
+
+const ZERO: u8 = 48;
 
 // A row's event and values; or the number of its refusal, and zeros.
 pub struct Entry {
@@ -39,25 +43,47 @@ pub struct Values {
     pub values: [u32; 4],
 }
 
-// Whether a row holds a CR, an LF or a quote.
-fn has_barred(row: &[u8]) -> bool
-    ensures { λ r. ⌜ r ≡ some isBarred (now (row .entry)) ⌝ }
+// Whether a byte is one that no row may hold: a CR, an LF or a quote.
+fn is_barred(b: u8) -> bool
+    ensures { λ r. ⌜ r ≡ isBarred b ⌝ }
 {
+    if b == CR {
+        return true;
+    }
+    if b == LF {
+        return true;
+    }
+    b == QUOTE
+}
+
+// How many fields a row has; or 0, which no row has, where it holds a barred byte. One pass; the bytes that are not below a
+// digit, which are nearly all, cost one comparison each.
+fn fields_said(row: &[u8]) -> usize
+    ensures { λ r. ⌜ r ≡ cond (some isBarred (now (row .entry))) 0 (length (fields (now (row .entry)))) ⌝ }
+{
+    let mut count: usize = 1;
     let mut i: usize = 0;
     while i < row.len() {
         let b = row[i];
-        if b == CR {
-            return true;
+        if b < ZERO {
+            if b <= QUOTE {
+                if is_barred(b) {
+                    return 0;
+                }
+                i += 1;
+            } else {
+                if b == COMMA {
+                    count += 1;
+                    i += 1;
+                } else {
+                    i += 1;
+                }
+            }
+        } else {
+            i += 1;
         }
-        if b == LF {
-            return true;
-        }
-        if b == QUOTE {
-            return true;
-        }
-        i += 1;
     }
-    false
+    count
 }
 
 fn value_said(f: &[u8]) -> Value
@@ -79,15 +105,18 @@ fn value_said(f: &[u8]) -> Value
     }
 }
 
-fn values_said(row: &[u8], f: rows::Fields, parameters: usize) -> Values
-    requires { ⌜ Split (now row) f × ((f .count ≡ parameters + 1) × (parameters ≤ 4)) ⌝ }
+// The values of a row's fields after the first, which ends at `from`: each field is found from the end of the one before.
+fn values_said(row: &[u8], from: usize, parameters: usize) -> Values
+    requires { ⌜ (from ≡ upToComma (now row)) × ((length (fields (now row)) ≡ parameters + 1) × (parameters ≤ 4)) ⌝ }
     ensures { λ r. ⌜ r ≡ valuesSaid (drop 1 (fields (now (row .entry)))) ⌝ }
 {
     let mut values = [0u32; 4];
+    let mut end = from;
     let mut k: usize = 0;
     while k < parameters {
-        let part = rows::field_at(row, f, k + 1);
-        let v = value_said(part);
+        let start = end + 1;
+        end = rows::field_end(row, start);
+        let v = value_said(&row[start..end]);
         if v.bad {
             return Values {
                 bad: true,
@@ -132,19 +161,16 @@ pub fn read_row<'a, 'b, 'c>(
     if ROW_BYTES < row.len() {
         return refused(refusals::BAD_ROW);
     }
-    if has_barred(row) {
+    if fields_said(row) != parameters + 1 {
         return refused(refusals::BAD_ROW);
     }
-    let f = rows::split(row);
-    if f.count != parameters + 1 {
-        return refused(refusals::BAD_ROW);
-    }
-    let name = rows::field_at(row, f, 0);
+    let end = rows::field_end(row, 0);
+    let name = &row[0..end];
     let event = declared::find(text, starts, sizes, events, name);
     if events <= event {
         return refused(refusals::UNKNOWN_EVENT);
     }
-    let v = values_said(row, f, parameters);
+    let v = values_said(row, end, parameters);
     if v.bad {
         return refused(refusals::BAD_VALUE);
     }

@@ -106,7 +106,7 @@ collected-at f (p ∷ l) (suc j) a b h m =
     (collected-at (placed f p) l j (length-set (f .starts) (f .count) (p .start) ∙ a) (length-set (f .sizes) (f .count) (p .size) ∙ b) (omega arith) (omega arith))
 
 -- The fields of a row that was split.
-fields-length : (row : List ℕ) → length (fields row) ≡ length (parts row)
+pub fields-length : (row : List ℕ) → length (fields row) ≡ length (parts row)
 unfolding fields
 fields-length row = length-map (parts row) (partOf row)
 

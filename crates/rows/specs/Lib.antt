@@ -5,5 +5,6 @@ pub mod TextLaws
 pub mod SplitLaws
 pub mod ValueLaws
 pub mod FieldsLaws
+pub mod FieldsInTurn
 pub mod RunsOfRows
 pub mod BuffersOfRows

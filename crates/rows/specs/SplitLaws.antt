@@ -241,6 +241,3 @@ collects-next row start end end′ f g c h e q =
 pub collects-all : (row : List ℕ) (start end : ℕ) (f : Fields) → Collects row start end f → length row ≤ end → Split row f
 unfolding collected
 collects-all row start end f c h = record { is = rw (fields-over row start end (c .ends) h) at (c .rest); inside = c .inside }
-
-pub collects-inside : (row : List ℕ) (start end : ℕ) (f : Fields) → Collects row start end f → (start ≤ end) × (end ≤ length row)
-collects-inside row start end f c = end-within row start end (c .ends) (c .place)

@@ -1,14 +1,14 @@
 -- Laws of decimal numbers in fields, as the loop over a field's digits meets them.
 -- Assumes nothing.
-use Prim.Native.Nat.{ℕ, zero, suc, _+_, _-_, _*_, _≤_, _<_}
-use mathlib.Core.Path.{_≡_, refl, sym, ap, _∙_}
-use mathlib.Core.Logic.{_⊎_, inl, inr}
-use mathlib.Core.Bool.{Bool, true, false, not, cond, _&&_, _||_}
+use Prim.Native.Nat.{ℕ, _+_, _-_, _*_, _≤_, _<_}
+use mathlib.Core.Path.{_≡_, refl, sym, _∙_}
+use mathlib.Core.Logic.{inl, inr}
+use mathlib.Core.Bool.{Bool, true, false, not, cond, _&&_, _||_, and-false}
 use mathlib.Core.List.{List, [], _∷_}
 use lib.ListN.{length, getD, drop}
 use lib.Dec.{eqb, leb}
 use native.Mathlib.Omega.{arith}
-use borrow.Author.Tests.{eq-eqb, ne-eqb, le-leb, lt-leb, leb-true, not-true, not-false}
+use borrow.Author.Tests.{ne-eqb, le-leb, lt-leb, leb-true}
 use Rattle.document.specs.Lists.{every}
 use Rattle.document.specs.Limits.{largestValue}
 use Rattle.document.specs.Classes.{classOf, isDigit, between, zeroByte}
@@ -38,12 +38,25 @@ no-digit b e = rw e
     (neither (eqb b 43) _ _ refl
     (neither (eqb b 64) _ _ refl refl))))))))))
 
--- a digit is a byte from `0` to `9`
-pub digit-range : (b : ℕ) → isDigit b ≡ true → (zeroByte ≤ b) × (b ≤ 57)
-digit-range b h = elim (split-bool (between 48 57 b)) [
-  | inl e ↦ let p = both (leb 48 b) (leb b 57) e in (leb-true 48 b (p .0), leb-true b 57 (p .1))
-  | inr e ↦ let g = no-digit b e in let z : _≡_ {A = ℕ} 0 1 = cc in absurd (omega arith)
+-- a byte is a digit exactly from `0` to `9`: the class by two comparisons
+pub digit-between : (b : ℕ) → isDigit b ≡ between 48 57 b
+unfolding classOf
+digit-between b = elim (split-bool (between 48 57 b)) [
+  | inl e ↦
+      let p = both (leb 48 b) (leb b 57) e in
+      let l = leb-true b 57 (p .1) in
+      rw (lt-leb 65 b (omega arith), lt-leb 97 b (omega arith), e)
+  | inr e ↦ no-digit b e ∙ sym e
 ]
+
+digit-here : (b : ℕ) → zeroByte ≤ b → b ≤ 57 → isDigit b ≡ true
+digit-here b h l = digit-between b ∙ rw (le-leb 48 b h, le-leb b 57 l)
+
+digit-past : (b : ℕ) → 57 < b → isDigit b ≡ false
+digit-past b h = digit-between b ∙ rw (lt-leb b 57 h, and-false (leb 48 b))
+
+digit-below : (b : ℕ) → b < zeroByte → isDigit b ≡ false
+digit-below b h = digit-between b ∙ rw (lt-leb 48 b h)
 
 -- a decimal number does not fall as digits are added
 pub decimal-grows : (n : ℕ) (t : List ℕ) → n ≤ decimalFrom n t
@@ -82,15 +95,17 @@ pub digits-begin : (f : List ℕ) → (length f ≡ 0 → ⊥) → (getD f 0 0 �
 digits-begin f h n = record { filled = omega arith; first = n; small = omega arith; digits = refl; number = refl }
 
 -- a byte that is no digit
-pub digits-other : (f : List ℕ) (value i : ℕ) → Digits f value i → i < length f → (d : Bool) → d ≡ isDigit (getD f i 0) → not d ≡ true → 0 ≡ valueOf f
+digits-other : (f : List ℕ) (value i : ℕ) → Digits f value i → i < length f → isDigit (getD f i 0) ≡ false → 0 ≡ valueOf f
 unfolding every
-digits-other f value i g h d q e =
-    let z : every isDigit f ≡ false = sym (g .digits) ∙ rw (drop-here f i h, sym q ∙ not-true d e) in
+digits-other f value i g h e =
+    let z : every isDigit f ≡ false = sym (g .digits) ∙ rw (drop-here f i h, e) in
     sym (value-is f (g .filled) ∙ rw z)
 
--- a byte that was tested to be a digit
-pub digit-of : (b : ℕ) (d : Bool) → d ≡ isDigit b → not d ≡ false → (zeroByte ≤ b) × (b ≤ 57)
-digit-of b d q e = digit-range b (sym q ∙ not-false d e)
+pub digits-below : (f : List ℕ) (value i : ℕ) → Digits f value i → i < length f → getD f i 0 < zeroByte → 0 ≡ valueOf f
+digits-below f value i g h l = digits-other f value i g h (digit-below (getD f i 0) l)
+
+pub digits-past : (f : List ℕ) (value i : ℕ) → Digits f value i → i < length f → 57 < getD f i 0 → 0 ≡ valueOf f
+digits-past f value i g h l = digits-other f value i g h (digit-past (getD f i 0) l)
 
 -- a digit more, past the largest value
 pub digits-large : (f : List ℕ) (value i : ℕ) → Digits f value i → i < length f
@@ -109,14 +124,14 @@ digits-large f value i g h l =
     none false y = refl
 
 -- a digit more
-pub digits-turn : (f : List ℕ) (value i : ℕ) → Digits f value i → i < length f → (d : Bool) → d ≡ isDigit (getD f i 0) → not d ≡ false
+pub digits-turn : (f : List ℕ) (value i : ℕ) → Digits f value i → i < length f → zeroByte ≤ getD f i 0 → getD f i 0 ≤ 57
     → value * 10 + (getD f i 0 - zeroByte) ≤ largestValue → Digits f (value * 10 + (getD f i 0 - zeroByte)) (i + 1)
 unfolding every decimalFrom
-digits-turn f value i g h d q e l = record {
+digits-turn f value i g h a z l = record {
   filled = g .filled;
   first = g .first;
   small = l;
-  digits = rw (drop-here f i h, sym q ∙ not-false d e) at (g .digits);
+  digits = rw (drop-here f i h, digit-here (getD f i 0) a z) at (g .digits);
   number = rw (drop-here f i h) at (g .number);
 }
 

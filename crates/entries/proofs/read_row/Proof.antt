@@ -1,6 +1,9 @@
 -- `entries::read_row` meets its contract: each test decides its refusal, in the document's order.
 -- Assumes nothing.
-use Rattle.entries.specs.RowLaws.{row-long, row-barred, row-fields, row-unknown, row-bad, row-wrong, row-right}
+use native.Mathlib.Omega.{arith}
+use Rattle.rows.specs.SplitLaws.{end-within}
+use Rattle.entries.specs.EntriesLaws.{count-right}
+use Rattle.entries.specs.RowLaws.{row-long, row-fields, row-unknown, row-bad, row-wrong, row-right}
 use borrow.Author.Needs.{needs}
 use Prim.Native.Nat.{_-_}
 use Rattle.entries.proofs.read_row.Statement.{statement}
@@ -12,47 +15,48 @@ refused-requires c κs = search needs
 returns : tie.Need-returns
 returns c = search (needs, row-long)
 
-has-barred-requires : tie.Need-has-barred-requires
-has-barred-requires c κs = search needs
+fields-said-requires : tie.Need-fields-said-requires
+fields-said-requires c κs = search needs
+
+add-if2 : tie.Need-add-if2
+add-if2 c = search needs
 
 refused-requires-2 : tie.Need-refused-requires-2
 refused-requires-2 c κs = search needs
 
 returns-2 : tie.Need-returns-2
-returns-2 c = search (needs, row-barred)
+returns-2 c = search (needs, row-fields)
 
-split-requires : tie.Need-split-requires
-split-requires c κs = search needs
+field-end-requires : tie.Need-field-end-requires
+field-end-requires c κs = search needs
 
-add-if3 : tie.Need-add-if3
-add-if3 c = search needs
+sub-name : tie.Need-sub-name
+sub-name c = search needs
+
+part-name-start : tie.Need-part-name-start
+part-name-start c = search needs
+
+part-name-end : tie.Need-part-name-end
+part-name-end c = omega (arith, end-within _ _ _ (c .field-end .ensures) (omega arith))
+
+find-requires : tie.Need-find-requires
+find-requires c κs = search needs
 
 refused-requires-3 : tie.Need-refused-requires-3
 refused-requires-3 c κs = search needs
 
 returns-3 : tie.Need-returns-3
-returns-3 c = search (needs, row-fields)
+returns-3 c = search (needs, row-unknown)
 
-field-at-requires : tie.Need-field-at-requires
-field-at-requires c κs = search needs
-
-find-requires : tie.Need-find-requires
-find-requires c κs = search needs
+values-said-requires : tie.Need-values-said-requires
+values-said-requires c κs =
+    (omega (arith, c .before .before .before .field-end .ensures), (count-right _ _ (c .before .before .before .before .before .fields-said .ensures) _ (c .before .before .before .before .if2 .left), search needs))
 
 refused-requires-4 : tie.Need-refused-requires-4
 refused-requires-4 c κs = search needs
 
 returns-4 : tie.Need-returns-4
-returns-4 c = search (needs, row-unknown)
-
-values-said-requires : tie.Need-values-said-requires
-values-said-requires c κs = search needs
-
-refused-requires-5 : tie.Need-refused-requires-5
-refused-requires-5 c κs = search needs
-
-returns-5 : tie.Need-returns-5
-returns-5 c = search (needs, row-bad)
+returns-4 c = search (needs, row-bad)
 
 element-copy-out-wide : tie.Need-element-copy-out-wide
 element-copy-out-wide c = search needs
@@ -63,18 +67,17 @@ wide-requires c κs = search needs
 binds-exactly-requires : tie.Need-binds-exactly-requires
 binds-exactly-requires c κs = search needs
 
-refused-requires-6 : tie.Need-refused-requires-6
-refused-requires-6 c κs = search needs
+refused-requires-5 : tie.Need-refused-requires-5
+refused-requires-5 c κs = search needs
+
+returns-5 : tie.Need-returns-5
+returns-5 c =
+    row-wrong _ _ _ _ _ _ _ (c .before .before .before .before .before .before .before .before .before .before .before .before .before .before .if1 .left) _ (c .before .before .before .before .before .before .before .before .before .before .before .before .before .fields-said .ensures) (c .before .before .before .before .before .before .before .before .before .before .before .before .if2 .left) _ (c .before .before .before .before .before .before .before .before .before .before .before .field-end .ensures) _ (c .before .before .before .before .before .before .before .before .before .find .ensures)
+    (c .before .before .before .before .before .before .before .before .if3 .left) _ (c .before .before .before .before .before .before .before .values-said .ensures) (c .before .before .before .before .before .before .if4 .left) _ (c .before .before .before .wide .ensures) (c .before .before .binds-exactly .result)
+    (c .before .before .binds-exactly .ensures) _ (c .refused5 .ensures) (c .before .if5 .taken)
 
 returns-6 : tie.Need-returns-6
-returns-6 c =
-    row-wrong _ _ _ _ _ _ _ (c .before .before .before .before .before .before .before .before .before .before .before .before .before .before .before .before .before .before .before .pre .1 .1) (c .before .before .before .before .before .before .before .before .before .before .before .before .before .before .before .before .if1 .left) (c .before .before .before .before .before .before .before .before .before .before .before .before .before .before .before .has-barred .result) (c .before .before .before .before .before .before .before .before .before .before .before .before .before .before .before .has-barred .ensures)
-    (c .before .before .before .before .before .before .before .before .before .before .before .before .before .before .if2 .left) _ (c .before .before .before .before .before .before .before .before .before .before .before .before .before .split .ensures) (c .before .before .before .before .before .before .before .before .before .before .before .if3 .left) _ (c .before .before .before .before .before .before .before .before .before .before .field-at .ensures) _ (c .before .before .before .before .before .before .before .before .before .find .ensures)
-    (c .before .before .before .before .before .before .before .before .if4 .left) _ (c .before .before .before .before .before .before .before .values-said .ensures) (c .before .before .before .before .before .before .if5 .left) _ (c .before .before .before .wide .ensures) (c .before .before .binds-exactly .result)
-    (c .before .before .binds-exactly .ensures) _ (c .refused6 .ensures) (c .before .if6 .taken)
-
-returns-7 : tie.Need-returns-7
-returns-7 c = search (needs, row-right)
+returns-6 c = search (needs, row-right)
 
 pub read-row-spec : {M : Type 1} → statement M
 read-row-spec =
@@ -82,23 +85,23 @@ read-row-spec =
     (tie.spec
     refused-requires
     returns
-    has-barred-requires
+    fields-said-requires
+    add-if2
     refused-requires-2
     returns-2
-    split-requires
-    add-if3
+    field-end-requires
+    sub-name
+    part-name-start
+    part-name-end
+    find-requires
     refused-requires-3
     returns-3
-    field-at-requires
-    find-requires
+    values-said-requires
     refused-requires-4
     returns-4
-    values-said-requires
-    refused-requires-5
-    returns-5
     element-copy-out-wide
     wide-requires
     binds-exactly-requires
-    refused-requires-6
-    returns-6
-    returns-7)
+    refused-requires-5
+    returns-5
+    returns-6)

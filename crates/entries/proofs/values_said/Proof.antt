@@ -1,25 +1,36 @@
--- `entries::values_said` meets its contract: the values read so far are those of the fields before the loop's number.
+-- `entries::values_said` meets its contract: the values read so far are those of the fields before the loop's number, and the
+-- walk has reached the field before the next.
 -- Assumes nothing.
-use Rattle.entries.specs.EntriesLaws.{Reading, reading-begins, reading-bad, reading-more, reading-ends}
+use native.Mathlib.Omega.{arith}
+use Rattle.entries.specs.EntriesLaws.{Reading, reading-begins, reading-comma, reading-within, reading-bad, reading-more, reading-ends}
 use Prim.Native.Nat.{_-_}
 use borrow.Author.Needs.{needs}
 use Rattle.entries.proofs.values_said.Statement.{statement}
 use Rattle.entries.proofs.values_said.Tie as tie
 
 abbrev Inv-loop : tie.InvT-loop
-Inv-loop row f parameters values₀ k₀ values k = Reading row values parameters k
+Inv-loop row from parameters values₀ end₀ k₀ values end k = Reading row values parameters k end
 
 abbrev μ-loop : tie.MeasureT-loop
-μ-loop row f parameters values₀ k₀ values k = parameters - k
+μ-loop row from parameters values₀ end₀ k₀ values end k = parameters - k
 
 loop-holds : tie.Need-loop-holds Inv-loop μ-loop
 loop-holds c = search (needs, reading-begins)
 
-add-field-at : tie.Need-add-field-at Inv-loop μ-loop
-add-field-at c = search needs
+add-start : tie.Need-add-start Inv-loop μ-loop
+add-start c = omega (arith, reading-comma _ _ _ _ _ (c .before .loop .inv) (c .loop-test .taken))
 
-field-at-requires : tie.Need-field-at-requires Inv-loop μ-loop
-field-at-requires c κs = search needs
+field-end-requires : tie.Need-field-end-requires Inv-loop μ-loop
+field-end-requires c κs = search needs
+
+sub-value-said : tie.Need-sub-value-said Inv-loop μ-loop
+sub-value-said c = search needs
+
+part-value-said-start : tie.Need-part-value-said-start Inv-loop μ-loop
+part-value-said-start c = search needs
+
+part-value-said-end : tie.Need-part-value-said-end Inv-loop μ-loop
+part-value-said-end c = omega (arith, reading-within _ _ _ _ _ (c .before .before .loop .inv) (c .before .loop-test .taken) _ (c .field-end .ensures))
 
 value-said-requires : tie.Need-value-said-requires Inv-loop μ-loop
 value-said-requires c κs = search needs
@@ -52,8 +63,11 @@ values-said-spec =
     Inv-loop
     μ-loop
     loop-holds
-    add-field-at
-    field-at-requires
+    add-start
+    field-end-requires
+    sub-value-said
+    part-value-said-start
+    part-value-said-end
     value-said-requires
     returns
     mul-values

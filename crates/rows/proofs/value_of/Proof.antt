@@ -1,7 +1,6 @@
 -- `rows::value_of` meets its contract: the digits read so far and the rest make the field's number.
 -- Assumes nothing.
-use native.Mathlib.Omega.{arith}
-use Rattle.rows.specs.ValueLaws.{Digits, digit-of, value-empty, value-zero, digits-begin, digits-other, digits-large, digits-turn, digits-end}
+use Rattle.rows.specs.ValueLaws.{Digits, value-empty, value-zero, digits-begin, digits-below, digits-past, digits-large, digits-turn, digits-end}
 use Prim.Native.Nat.{_-_}
 use lib.ListN.{length}
 use borrow.Author.Needs.{needs}
@@ -29,26 +28,23 @@ loop-holds c = search (needs, digits-begin)
 shared-slice-read-b : tie.Need-shared-slice-read-b Inv-loop μ-loop
 shared-slice-read-b c = search needs
 
-is-digit-requires : tie.Need-is-digit-requires Inv-loop μ-loop
-is-digit-requires c κs = search needs
-
 returns-3 : tie.Need-returns-3 Inv-loop μ-loop
-returns-3 c = search (needs, digits-other)
+returns-3 c = search (needs, digits-below)
+
+returns-4 : tie.Need-returns-4 Inv-loop μ-loop
+returns-4 c = search (needs, digits-past)
 
 mul-more : tie.Need-mul-more Inv-loop μ-loop
 mul-more c = search needs
 
-sub-more : tie.Need-sub-more Inv-loop μ-loop
-sub-more c = omega (arith, digit-of _ _ (c .before .is-digit .ensures) (c .if3 .left))
-
 cast-more : tie.Need-cast-more Inv-loop μ-loop
-cast-more c = omega (arith, digit-of _ _ (c .before .is-digit .ensures) (c .if3 .left))
+cast-more c = search needs
 
 add-more : tie.Need-add-more Inv-loop μ-loop
-add-more c = omega (arith, digit-of _ _ (c .before .is-digit .ensures) (c .if3 .left))
+add-more c = search needs
 
-returns-4 : tie.Need-returns-4 Inv-loop μ-loop
-returns-4 c = digits-large _ _ _ (c .before .before .before .before .before .loop .inv) (c .before .before .before .before .loop-test .taken) (search needs)
+returns-5 : tie.Need-returns-5 Inv-loop μ-loop
+returns-5 c = digits-large _ _ _ (c .before .before .before .before .before .loop .inv) (c .before .before .before .before .loop-test .taken) (search needs)
 
 add-i : tie.Need-add-i Inv-loop μ-loop
 add-i c = search needs
@@ -62,8 +58,8 @@ loop-again c = search (needs, digits-turn)
 cast-result : tie.Need-cast-result Inv-loop μ-loop
 cast-result c = search needs
 
-returns-5 : tie.Need-returns-5 Inv-loop μ-loop
-returns-5 c = search (needs, digits-end)
+returns-6 : tie.Need-returns-6 Inv-loop μ-loop
+returns-6 c = search (needs, digits-end)
 
 pub value-of-spec : {M : Type 1} → statement M
 value-of-spec =
@@ -76,15 +72,14 @@ value-of-spec =
     returns-2
     loop-holds
     shared-slice-read-b
-    is-digit-requires
     returns-3
+    returns-4
     mul-more
-    sub-more
     cast-more
     add-more
-    returns-4
+    returns-5
     add-i
     loop-less
     loop-again
     cast-result
-    returns-5)
+    returns-6)
