@@ -13,7 +13,7 @@ use Rattle.document.specs.Rows.{fields, field}
 use Rattle.document.specs.Combinations.{bindsExactly}
 use Rattle.document.specs.Log.{rowEvent}
 use Rattle.rows.specs.Split.{upToComma}
-use Rattle.rows.specs.SplitLaws.{walk-begins, walk-ends}
+use Rattle.rows.specs.SplitLaws.{walk-begins, walk-field}
 use Rattle.declared.specs.Readings.{namesAt}
 use Rattle.slices.specs.ListsLaws.{length-tabulate}
 use Rattle.entries.specs.declared.Entry.{Entry}
@@ -27,7 +27,7 @@ names-count text n starts sizes = length-tabulate n (λ k. take (getD sizes k 0)
 
 -- the event's name is the part of the row up to its first comma
 first-field : (row : List ℕ) (end : ℕ) → end ≡ 0 + upToComma (drop 0 row) → take (end - 0) (drop 0 row) ≡ field row 0
-first-field row end e = walk-ends row 0 0 end 0 (walk-begins row 0 end e) (omega arith)
+first-field row end e = walk-field row 0 0 end 0 (walk-begins row 0 end e) (omega arith)
 
 module _ (text starts sizes sets row : List ℕ) (events n : ℕ) where
   pub row-long : (r : Entry) → r ≡ refusedEntry 18 → rowBytes < length row → r ≡ entryOf (rowEvent (declaredAt text starts sizes sets events n) row)

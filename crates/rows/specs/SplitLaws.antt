@@ -157,14 +157,18 @@ walk-none lent r number start end left w p h b l =
     let z = walk-over (lent .now) number start end left w p h in
     record { holds = b ∙ sym (field-part (lent .now) number ∙ ap (partOf (lent .now)) z); lies = rw z l }
 
+pub walk-field : (row : List ℕ) (number start end left : ℕ) → Walk row number start end left → left ≤ 0 → take (end - start) (drop start row) ≡ field row number
+unfolding partOf
+walk-field row number start end left w h =
+    let z = walk-there row number start end left w h in
+    let k : end - start ≡ upToComma (drop start row) = let e = w .ends in omega arith in
+    sym (field-part row number ∙ ap (partOf row) z ∙ rw k)
+
 pub walk-ends : (lent r : RefT (List ℕ)) (number start end left : ℕ) → Walk (lent .now) number start end left → left ≤ 0
     → r .now ≡ take (end - start) (drop start (lent .now)) → r .ptr ≡ (lent .ptr .0, start + lent .ptr .1)
     → PartAt lent (fieldPart (lent .now) number .start) (field (lent .now) number) r
-unfolding partOf
 walk-ends lent r number start end left w h b l =
-    let z = walk-there (lent .now) number start end left w h in
-    let k : end - start ≡ upToComma (drop start (lent .now)) = let e = w .ends in omega arith in
-    record { holds = b ∙ sym (field-part (lent .now) number ∙ ap (partOf (lent .now)) z ∙ rw k); lies = rw z l }
+    record { holds = b ∙ walk-field (lent .now) number start end left w h; lies = rw (walk-there (lent .now) number start end left w h) l }
 
 pub walk-inside : (row : List ℕ) (number start end left : ℕ) → Walk row number start end left → (start ≤ end) × (end ≤ length row)
 walk-inside row number start end left w = end-within row start end (w .ends) (w .place)
