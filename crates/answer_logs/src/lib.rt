@@ -16,11 +16,7 @@ use remembered::tables;
 use session::Answered;
 
 // Room for the lines of a row that are printed: those of 3,005 reports, more than any chosen batch has.
-const LINES_BYTES: usize = 216360;
-
-const MOST_PARAMETERS: usize = 4;
-
-const REPORT_STRIDE: usize = 5;
+const LINES_BYTES: usize = 3005 * lines::MOST_LINE;
 
 // `row` bytes: the row as a part of the buffer, and the place after the request.
 pub struct RowAsked {
@@ -258,7 +254,7 @@ fn is_of_row(refusal: u8) -> bool {
 
 // Writes the line of the last row, which was refused, into a text, and answers how many bytes it has; 0 if there is no room.
 fn put_refusal(m: Memory, number: usize, text: &mut [u8]) -> usize {
-    if MOST_PARAMETERS < m.row_parameters {
+    if property::WIDTH < m.row_parameters {
         return 0;
     }
     if text.len() < lines::MOST_LINE {
@@ -269,10 +265,10 @@ fn put_refusal(m: Memory, number: usize, text: &mut [u8]) -> usize {
 
 // Writes a line for each report of the last row. One that no line is printed of has none.
 fn put_reports(m: Memory, of_row: &[u32], number: usize, text: &mut [u8]) -> usize {
-    if MOST_PARAMETERS < m.row_parameters {
+    if property::WIDTH < m.row_parameters {
         return 0;
     }
-    if of_row.len() / REPORT_STRIDE < m.row_reports {
+    if of_row.len() / lines::REPORT_STRIDE < m.row_reports {
         return 0;
     }
     if text.len() / lines::MOST_LINE < m.row_reports {

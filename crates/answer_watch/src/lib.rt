@@ -8,16 +8,14 @@ use batch::told::stuck;
 use batch::write;
 use property::Property;
 
-// The rooms of the watch program: 1,024 seen, 3,000 kept, 3,000 reports.
-const SEEN_NUMBERS: usize = 4096;
+// The rooms of the watch program: 1,024 seen, 3,000 kept, 3,000 reports. The first two are the largest that a session has.
+const REPORTS: usize = 3000;
 
-const KEPT_NUMBERS: usize = 15000;
-
-const REPORT_NUMBERS: usize = 15000;
+const REPORT_NUMBERS: usize = REPORTS * lines::REPORT_STRIDE;
 
 // Room for all that is printed for one request: twice the lines of the fullest row. If that is not enough, the request is not
 // answered.
-const PRINTED_BYTES: usize = 432000;
+const PRINTED_BYTES: usize = 2 * REPORTS * lines::MOST_LINE;
 
 // `watch` events pattern log: three texts, and the place after the request.
 struct WatchAsked {
@@ -84,8 +82,8 @@ fn print_rows(
     if text.len() < at {
         return read::STUCK;
     }
-    let mut seen = [0u32; SEEN_NUMBERS];
-    let mut kept = [0u32; KEPT_NUMBERS];
+    let mut seen = [0u32; session::SEEN_NUMBERS];
+    let mut kept = [0u32; session::KEPT_NUMBERS];
     let mut reports = [0u32; REPORT_NUMBERS];
     let started = session::start(p, &mut seen, &mut kept);
     let d = printing::print(

@@ -1,7 +1,7 @@
 -- Document 01, "Cases marked P are proved": P1 to P10 as one list under one statement, about the definitions, from the bytes
 -- of the texts on. `worked-cases`, at the end, proves it by computing; P10 speaks of all words and is proved by induction.
 -- Assumes nothing.
-use Prim.Native.Nat.{ℕ}
+use Prim.Native.Nat.{ℕ, _-_}
 use mathlib.Core.Path.{_≡_, refl, sym, ap, subst, _∙_}
 use mathlib.Core.Logic.{_↔_}
 use mathlib.Core.Bool.{Bool, true, false}
@@ -10,7 +10,7 @@ use mathlib.Core.List as list
 use lib.ListN.{take}
 use Rattle.document.specs.Bytes.{bytes}
 use Rattle.document.specs.Lists.{keepIf, every, some, everyBelow, someBelow, tabulate, equal, among, placeOf, repeated, startsWith, takeWhile, joinedUp}
-use Rattle.document.specs.Limits.{reportStride}
+use Rattle.document.specs.Limits.{width, reportStride}
 use Rattle.document.specs.Classes.{classOf, isLetter, isDigit, isBlank, isNameByte}
 use Rattle.document.specs.Refusals.{Answer, taken}
 use Rattle.document.specs.Rows.{endsRow, firstRow, afterRow, rowsWithin, rows, stray, partsFrom, parts, partOf, fields, decimalFrom, valueOf}
@@ -22,7 +22,7 @@ use Rattle.document.specs.Positions.{nullable, firsts, lasts, follows, n
 use Rattle.document.specs.States.{stateOf, find, findAll, rowOf, goThrough, statesOf}
 use Rattle.document.specs.Property.{Property, setOf, nextState, stateFrom, stateAfter, verdict, inRange, asksFor, isAsked, leadsIn, leadsAfter, leads, hopeful}
 use Rattle.document.specs.Translate.{propertyOf, translate}
-use Rattle.document.specs.Combinations.{includes, compatible, join, precedes, bindsFrom, bindsExactly, zeroPast}
+use Rattle.document.specs.Combinations.{emptyOf, includes, compatible, join, precedes, bindsFrom, bindsExactly, zeroPast}
 use Rattle.document.specs.OneEvent.{Kept, joinSeen, insertKept, inOrder, insertSeen, see, moves, movedFrom, moved, keptAfter, reportsAfter}
 use Rattle.document.specs.Tables.{numbersAt, seenRoom, keptRoom, reportRoom, seenRows, keptRows, keptNumbers, filled, seenTable, keptTable}
 use Rattle.document.specs.Session.{seenOf, keptOf, sessionWith, ascending, zeroBetween, keptCombinations, rightlyKept, sound, firstKept, lentTables, start, reportNumbers, keeps, reported, outcome, written, withinRooms, stepFrom}
@@ -34,12 +34,12 @@ use Rattle.document.specs.Example.{eventsFile, patternFile, logFile, out
 unfoldable pub row : Property → ℕ → List ℕ
 row p s = nextState p s 0 ∷ nextState p s 1 ∷ nextState p s 2 ∷ []
 
--- a kept row by its bay, batch and state; a seen row by its bay and batch
-abbrev pub keptRow : ℕ → ℕ → ℕ → Kept
-keptRow bay batch state = record { combination = bay ∷ batch ∷ 0 ∷ 0 ∷ []; state = state }
-
+-- a seen row by its bay and batch, unbound past them; a kept row by its bay, batch and state
 abbrev pub seenRow : ℕ → ℕ → List ℕ
-seenRow bay batch = bay ∷ batch ∷ 0 ∷ 0 ∷ []
+seenRow bay batch = bay ∷ batch ∷ emptyOf (width - 2)
+
+abbrev pub keptRow : ℕ → ℕ → ℕ → Kept
+keptRow bay batch state = record { combination = seenRow bay batch; state = state }
 
 pub record WorkedCases : Type 0 where
   pub translates : translate eventsFile patternFile ≡ taken (tableOf eventsFile patternFile)
@@ -57,7 +57,7 @@ pub record WorkedCases : Type 0 where
   pub p6-kept-after : keptOf (afterRows 4 .happened .session) ≡ keptRow 0 0 0 ∷ keptRow 0 7 1 ∷ keptRow 1 7 3 ∷ []
   -- P7: row 5 reports bay 1, batch 7, match
   pub p7-count : afterRows 5 .happened .reported ≡ 1
-  pub p7-report : take reportStride (afterRows 5 .happened .reports) ≡ 1 ∷ 7 ∷ 0 ∷ 0 ∷ match ∷ []
+  pub p7-report : take reportStride (afterRows 5 .happened .reports) ≡ seenRow 1 7 ++ (match ∷ [])
   -- P8: "row 6 reports nothing"
   pub p8 : afterRows 6 .happened .reported ≡ 1
   -- "Afterwards seen holds .. ; kept holds .."; all six rows are taken

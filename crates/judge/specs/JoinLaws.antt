@@ -64,13 +64,13 @@ pub record Gathered (n : ℕ) (t c acc : List ℕ) (set : ℕ) : Type 0 where
   pub least : T (includes (joinSeen width c (seenRows n t)) acc)
   pub has : (x : List ℕ) → In x (seenRows n t) → T (includes c x) → set ≤ boundOf x → T (includes acc x)
 
-pub gathered-begins : (n : ℕ) (t c acc : List ℕ) → length c ≡ width → acc ≡ emptyOf width → Gathered n t c acc 16
+pub gathered-begins : (n : ℕ) (t c acc : List ℕ) → length c ≡ width → acc ≡ emptyOf width → Gathered n t c acc (2 ^ width)
 gathered-begins n t c acc o e = rw e (record {
   wide = o;
   made = length-empty width;
   below = includes-empty width c o;
   least = includes-empty width (joinSeen width c (seenRows n t)) (length-joinSeen width c (seenRows n t) (seen-width n t));
-  has = λ x i u h. absurd (let b = bound-less x in let w = seen-width n t x i in let z : 2 ^ length x ≡ 16 = rw w refl in omega arith);
+  has = λ x i u h. absurd (let b = bound-less x in let w = seen-width n t x i in let z : 2 ^ length x ≡ 2 ^ width = rw w refl in omega arith);
 })
 
 gathered-one : (n : ℕ) (t c acc : List ℕ) (set : ℕ) → Gathered n t c acc (set + 1) → Gathered n t c (gathered set c (seenRows n t) acc) set
@@ -161,10 +161,10 @@ pub record Covered (n : ℕ) (t c k : List ℕ) (set : ℕ) : Type 0 where
   pub joins : Joins n t c k
   pub has : (x : List ℕ) → In x (seenRows n t) → T (includes c x) → set ≤ boundOf x → T (includes k x)
 
-pub covered-begins : (n : ℕ) (t c k : List ℕ) → Joins n t c k → Covered n t c k 16
+pub covered-begins : (n : ℕ) (t c k : List ℕ) → Joins n t c k → Covered n t c k (2 ^ width)
 covered-begins n t c k j = record {
   joins = j;
-  has = λ x i u h. absurd (let b = bound-less x in let w = seen-width n t x i in let z : 2 ^ length x ≡ 16 = rw w refl in omega arith);
+  has = λ x i u h. absurd (let b = bound-less x in let w = seen-width n t x i in let z : 2 ^ length x ≡ 2 ^ width = rw w refl in omega arith);
 }
 
 -- the restriction to a set is covered: it is none of that set, or k includes it, or it is not seen

@@ -17,21 +17,37 @@ ghost use Rattle.lines.specs.Written.{Written};
 ghost use Rattle.lines.specs.Decimals.{lastDigits, mostDigits};
 ghost use Rattle.lines.specs.Lines.{valuesText, refusedNumberText, refusedNumberLine, namesOf, headingOf, mostValue, mostValues, mostVerdict, mostRefused, lineEndBytes, mostNames, mostLine, mostRefusal, mostHeading};
 
-// Bytes that the line of a report or of a refused row can have at most, the only line of a refused call, the heading: what a
-// caller must have room for. `mostLine` and the like of specs/Lines.antt say of what they are made up.
-pub const MOST_LINE: usize = 72;
-
-pub const MOST_REFUSAL: usize = 13;
-
-pub const MOST_HEADING: usize = 145;
-
 // Bytes of `event`, with which a header begins.
 const EVENT_BYTES: usize = 5;
 
 // Numbers in a report: a value for each parameter, then the verdict.
 const WIDTH: usize = 4;
 
-const REPORT_STRIDE: usize = WIDTH + 1;
+pub const REPORT_STRIDE: usize = WIDTH + 1;
+
+// Bytes that the parts of a line can have at most: a row's number; a verdict, a value and a parameter name, each with its
+// comma; `refused ` and its number; `row,verdict`; a line end.
+const MOST_DIGITS: usize = SURE_DIGITS + 1;
+
+const MOST_VERDICT: usize = 6;
+
+const MOST_VALUE: usize = 11;
+
+const MOST_NAME: usize = 33;
+
+const MOST_REFUSED: usize = 11;
+
+const HEADING_WORDS: usize = 11;
+
+const LINE_END: usize = 2;
+
+// Bytes that the line of a report or of a refused row can have at most, the only line of a refused call, the heading: what a
+// caller must have room for. `mostLine` and the like of specs/Lines.antt are made up in the same way.
+pub const MOST_LINE: usize = MOST_DIGITS + MOST_VERDICT + WIDTH * MOST_VALUE + LINE_END;
+
+pub const MOST_REFUSAL: usize = MOST_REFUSED + LINE_END;
+
+pub const MOST_HEADING: usize = HEADING_WORDS + WIDTH * MOST_NAME + LINE_END;
 
 // The verdict `match`; any other that is reported is `fail`.
 const MATCH: u32 = 1;

@@ -7,7 +7,7 @@ ghost use mathlib.Core.Path.{_≡_};
 ghost use mathlib.Core.Bool.{true, _&&_};
 ghost use Prim.Native.Nat.{_+_, _*_, _≤_, _<_};
 ghost use lib.Dec.{leb};
-ghost use Rattle.document.specs.Limits.{mostEvents, mostStates};
+ghost use Rattle.document.specs.Limits.{width, mostEvents, mostStates};
 ghost use Rattle.document.specs.Property.{inRange, asksFor};
 ghost use Rattle.property.specs.Meaning.{meaning, countsFit, setsFit, rowFits, rowsFit, Leading, Hopes, Asks};
 ghost use Rattle.property.specs.Steps.{Within, Ways, AllWays, Round, Reached};
@@ -72,7 +72,7 @@ fn counts_fit(parameters: usize, events: usize, states: usize, asked: u8) -> boo
 
 // Whether each event binds declared parameters alone.
 fn sets_fit(sets: &[u8; 16], events: usize, parameters: usize) -> bool
-    requires { ⌜ (events ≤ mostEvents) × (parameters ≤ 4) ⌝ }
+    requires { ⌜ (events ≤ mostEvents) × (parameters ≤ width) ⌝ }
     ensures { λ r. ⌜ r ≡ setsFit (now (sets .entry)) events parameters ⌝ }
 {
     let bound = 1u8 << parameters;

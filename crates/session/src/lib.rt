@@ -21,6 +21,11 @@ use combos::WIDTH;
 use moves::Known;
 use property::Property;
 
+// Numbers that the largest rooms of the seen and the kept table take: those past them are never read or written.
+pub const SEEN_NUMBERS: usize = judge::MOST_SEEN * SEEN_STRIDE;
+
+pub const KEPT_NUMBERS: usize = judge::MOST_KEPT * KEPT_STRIDE;
+
 // What a call answers: the number of refusal, or 0; the rows of both tables that count now; and the reports made.
 pub struct Answered {
     pub refusal: u8,

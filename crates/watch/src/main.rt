@@ -17,15 +17,13 @@ const TEXT_ROOM: usize = 4097;
 // The buffer that a log of any length is read through.
 const LOG_ROOM: usize = 65536;
 
-// The rooms: 1,024 seen, 3,000 kept, 3,000 reports.
-const SEEN_NUMBERS: usize = 4096;
+// The rooms: 1,024 seen, 3,000 kept, 3,000 reports. The first two are the largest that a session has.
+const REPORTS: usize = 3000;
 
-const KEPT_NUMBERS: usize = 15000;
+const REPORT_NUMBERS: usize = REPORTS * lines::REPORT_STRIDE;
 
-const REPORT_NUMBERS: usize = 15000;
-
-// The lines of the fullest row, 3,000 of `lines::MOST_LINE` bytes, and as much again, so that many rows are printed in one piece.
-const LINES_ROOM: usize = 432000;
+// The lines of the fullest row, and as much again, so that many rows are printed in one piece.
+const LINES_ROOM: usize = 2 * REPORTS * lines::MOST_LINE;
 
 // How far the log is printed: the number of the next row, the rows of both tables that count, and whether all went well.
 struct Course {
@@ -286,8 +284,8 @@ fn main() {
     let of_pattern = files::read_whole(b"pattern.txt", &mut pattern);
     let declared_to = of_declarations.count;
     let pattern_to = of_pattern.count;
-    let mut seen = [0u32; SEEN_NUMBERS];
-    let mut kept = [0u32; KEPT_NUMBERS];
+    let mut seen = [0u32; session::SEEN_NUMBERS];
+    let mut kept = [0u32; session::KEPT_NUMBERS];
     let mut reports = [0u32; REPORT_NUMBERS];
     let mut log = [0u8; LOG_ROOM];
     let mut text = [0u8; LINES_ROOM];

@@ -16,7 +16,7 @@ abbrev μ-loop : tie.MeasureT-loop
 μ-loop next known seen n kept m e b fresh keeps₀ reported₀ i₀ keeps reported i = m - i
 
 loop-holds : tie.Need-loop-holds Inv-loop μ-loop
-loop-holds c = (search needs, search needs, tallied-begins _ _ _ _ _ _ _ _)
+loop-holds c = (search needs, search needs, search (needs, tallied-begins))
 
 weigh-requires : tie.Need-weigh-requires Inv-loop μ-loop
 weigh-requires c κs = search (needs, ready-row)

@@ -31,13 +31,13 @@ next-state-requires : tie.Need-next-state-requires
 next-state-requires c κs = search needs
 
 moved-weight-requires : tie.Need-moved-weight-requires
-moved-weight-requires c κs = row-onward _ _ _ _ _ _ _ _ _ (c .before .before .before .before .before .before .before .pre) _ (c .next-state .ensures)
+moved-weight-requires c κs = search (needs, row-onward)
 
 returns : tie.Need-returns
 returns c = search (needs, weight-in-place)
 
 creates-requires : tie.Need-creates-requires
-creates-requires c κs = (search needs, row-joint _ _ _ _ _ _ _ _ _ (c .before .before .before .before .before .pre) _ (c .before .before .row-at .ensures), sym (c .before .includes .ensures) ∙ c .if1 .left)
+creates-requires c κs = (search needs, search (needs, row-joint), sym (c .before .includes .ensures) ∙ c .if1 .left)
 
 returns-2 : tie.Need-returns-2
 returns-2 c = search (needs, weight-stays)
@@ -55,7 +55,7 @@ next-state-requires-2 : tie.Need-next-state-requires-2
 next-state-requires-2 c κs = search needs
 
 moved-weight-requires-2 : tie.Need-moved-weight-requires-2
-moved-weight-requires-2 c κs = row-onward _ _ _ _ _ _ _ _ _ (c .before .before .before .before .before .before .before .before .before .pre) _ (c .next-state2 .ensures)
+moved-weight-requires-2 c κs = search (needs, row-onward)
 
 add-t22 : tie.Need-add-t22
 add-t22 c = omega (arith, moved-weight-small _ _ _ _ (c .before .moved-weight2 .ensures))
