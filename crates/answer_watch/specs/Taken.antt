@@ -5,9 +5,9 @@ use mathlib.Core.Path.{_≡_}
 use mathlib.Core.List.{List}
 use Rattle.document.specs.Refusals.{refusalOf}
 use Rattle.document.specs.Declarations.{declarations}
-use Rattle.declared.specs.Readings.{Reads}
-use Rattle.declared.specs.ReadingsLaws.{reads-taken}
-use Rattle.declared.specs.declared.Reading.{Reading}
+use Rattle.readings.specs.Readings.{Reads}
+use Rattle.readings.specs.ReadingsLaws.{reads-taken}
+use Rattle.readings.specs.declared.Reading.{Reading}
 
 -- they are taken
 pub taken-declared : (text : List ℕ) (t : Reading) → Reads text t → t .refusal ≡ 0 → refusalOf (declarations text) ≡ 0

@@ -1,8 +1,2 @@
-pub mod Readings
-pub mod NamesLaws
-pub mod FieldsLaws
-pub mod PlacesLaws
-pub mod RowRefusalsLaws
-pub mod RowReadsLaws
-pub mod TextReadsLaws
-pub mod ReadingsLaws
+pub mod Answers
+pub mod AnswersLaws

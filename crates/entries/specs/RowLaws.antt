@@ -14,7 +14,7 @@ use Rattle.document.specs.Combinations.{bindsExactly}
 use Rattle.document.specs.Log.{rowEvent}
 use Rattle.rows.specs.Split.{upToComma}
 use Rattle.rows.specs.SplitLaws.{walk-begins, walk-field}
-use Rattle.declared.specs.Readings.{namesAt}
+use Rattle.readings.specs.Readings.{namesAt}
 use Rattle.slices.specs.ListsLaws.{length-tabulate}
 use Rattle.entries.specs.declared.Entry.{Entry}
 use Rattle.entries.specs.declared.Values.{Values}

@@ -9,7 +9,7 @@ ghost use Rattle.document.specs.Limits.{mostEvents};
 ghost use Rattle.document.specs.Rows.{fields, valueOf};
 ghost use Rattle.document.specs.Log.{isBadValue, rowEvent};
 ghost use Rattle.rows.specs.Split.{upToComma};
-ghost use Rattle.declared.specs.Readings.{Inside};
+ghost use Rattle.readings.specs.Readings.{Inside};
 ghost use Rattle.entries.specs.Entries.{isBarred, valuesSaid, declaredAt, entryOf};
 
 pub const ROW_BYTES: usize = 128;
@@ -166,7 +166,7 @@ pub fn read_row<'a, 'b, 'c>(
     }
     let end = rows::field_end(row, 0);
     let name = &row[0..end];
-    let event = declared::find(text, starts, sizes, events, name);
+    let event = readings::find(text, starts, sizes, events, name);
     if events <= event {
         return refused(refusals::UNKNOWN_EVENT);
     }

@@ -21,7 +21,7 @@ use Rattle.document.specs.Log.{rowEvent, stepRow, agrees, judged, row, rowAt, n
 use Rattle.words.specs.Range.{in-range-range}
 use Rattle.slices.specs.TestsLaws.{so, true-of, and-of, of-and, everyBelow-of, of-everyBelow, either}
 use Rattle.slices.specs.ListsLaws.{length-tabulate}
-use Rattle.declared.specs.Readings.{namesAt, padded, Stands}
+use Rattle.readings.specs.Readings.{namesAt, padded, Stands}
 use Rattle.entries.specs.Entries.{declaredAt}
 use Rattle.judge.specs.Sound.{sessionOf}
 use Rattle.runs.specs.Judged.{agrees-of}

@@ -12,8 +12,8 @@ use Rattle.document.specs.Declarations.{Declared, declarations}
 use Rattle.document.specs.Property.{Property, inRange}
 use Rattle.document.specs.Session.{Session, sound}
 use Rattle.document.specs.Log.{agrees, judged}
-use Rattle.declared.specs.declared.Reading.{Reading}
-use Rattle.declared.specs.Readings.{Stands}
+use Rattle.readings.specs.declared.Reading.{Reading}
+use Rattle.readings.specs.Readings.{Stands}
 use Rattle.session.specs.Calls.{KnownOf}
 use Rattle.log.specs.declared.Judged.{Judged}
 

@@ -18,9 +18,9 @@ use Rattle.document.specs.Property.{Property, inRange, setOf}
 use Rattle.document.specs.Session.{Session, sound}
 use Rattle.document.specs.Log.{agrees, judged}
 use Rattle.words.specs.Range.{in-range-range}
-use Rattle.declared.specs.declared.Reading.{Reading}
-use Rattle.declared.specs.Readings.{padded, Stands, Reads}
-use Rattle.declared.specs.ReadingsLaws.{reads-taken, reads-refused}
+use Rattle.readings.specs.declared.Reading.{Reading}
+use Rattle.readings.specs.Readings.{padded, Stands, Reads}
+use Rattle.readings.specs.ReadingsLaws.{reads-taken, reads-refused}
 use Rattle.judge.specs.Sound.{soundBy}
 use Rattle.moves.specs.declared.Known.{Known}
 use Rattle.session.specs.Calls.{KnownOf}

@@ -12,7 +12,7 @@ use Rattle.document.specs.Declarations.{Declared}
 use Rattle.document.specs.Property.{Property, inRange}
 use Rattle.document.specs.Session.{Session, Happened, sound}
 use Rattle.document.specs.Log.{stepRow, rowAt, nextAt, agrees, Ran, ranTo, runFrom}
-use Rattle.declared.specs.Readings.{Inside}
+use Rattle.readings.specs.Readings.{Inside}
 use Rattle.entries.specs.Entries.{declaredAt}
 use Rattle.judge.specs.Sound.{sessionOf}
 use Rattle.moves.specs.declared.Known.{Known}

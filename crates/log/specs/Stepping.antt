@@ -9,7 +9,7 @@ use Rattle.document.specs.Refusals.{Answer, andThen}
 use Rattle.document.specs.Declarations.{Declared}
 use Rattle.document.specs.Session.{Session, Happened}
 use Rattle.document.specs.Log.{rowEvent}
-use Rattle.declared.specs.Readings.{Inside}
+use Rattle.readings.specs.Readings.{Inside}
 use Rattle.moves.specs.Ready.{Steady}
 use Rattle.session.specs.Calls.{stepBy}
 

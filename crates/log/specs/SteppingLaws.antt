@@ -20,8 +20,8 @@ use Rattle.document.specs.Session.{Session, Happened, keptOf, sound, leaves, st
 use Rattle.document.specs.Log.{RowEvent, rowEvent, stepRow, agrees}
 use Rattle.rows.specs.RowsLaws.{split-bool}
 use Rattle.slices.specs.ListsLaws.{length-tabulate}
-use Rattle.declared.specs.declared.Reading.{Reading}
-use Rattle.declared.specs.Readings.{padded, namesAt, Stands}
+use Rattle.readings.specs.declared.Reading.{Reading}
+use Rattle.readings.specs.Readings.{padded, namesAt, Stands}
 use Rattle.entries.specs.declared.Entry.{Entry}
 use Rattle.entries.specs.Entries.{declaredAt, entryOf}
 use Rattle.judge.specs.Sound.{sessionOf}

@@ -18,9 +18,9 @@ ghost use Rattle.log.specs.Judging.{sameSets, agreesBy, Judges};
 ghost use Rattle.log.specs.Stepping.{rowStepBy, RowGoes};
 ghost use Rattle.log.specs.Running.{RunLeaves, readAs, Sure, turnBy, Onward};
 use combos::KEPT_STRIDE;
-use declared::Reading;
 use moves::Known;
 use property::Property;
+use readings::Reading;
 use session::Answered;
 
 // What is judged once per call: the number of refusal, or 0, and then what the declarations say and what is known of the
@@ -102,7 +102,7 @@ pub fn judge_call<'a, 'b>(
 ) -> Judged
     ensures { λ r. ⌜ Judges (now (declarations .entry)) (meaning p) (sessionOf n m (now (seen .entry)) (now (kept .entry))) r ⌝ }
 {
-    let reading = declared::read(declarations);
+    let reading = readings::read(declarations);
     if reading.refusal != refusals::TAKEN {
         return refused_call(reading.refusal, reading);
     }

@@ -10,7 +10,7 @@ ghost use Rattle.document.specs.Limits.{mostEvents};
 ghost use Rattle.document.specs.Classes.{ereWord};
 ghost use Rattle.document.specs.Tokens.{isWordOf};
 ghost use Rattle.document.specs.Reading.{parse, nextIs, readAlternative, readSequence, readRepetition, readAtom};
-ghost use Rattle.declared.specs.Readings.{namesAt, Inside};
+ghost use Rattle.readings.specs.Readings.{namesAt, Inside};
 ghost use Rattle.sets.specs.Shapes.{eitherShape, thenShape};
 ghost use Rattle.tokens.specs.Lexing.{wordKind, lexemesAt};
 ghost use Rattle.tokens.specs.Steps.{Begins, Looks};
@@ -93,7 +93,7 @@ fn word<'a, 'b, 'c>(
         let shape = sets::empty();
         return taken_at(t.next, names, shape);
     }
-    let event = declared::find(events, starts, sizes, count, name);
+    let event = readings::find(events, starts, sizes, count, name);
     if count <= event {
         return refused_at(refusals::UNDECLARED_EVENT, at);
     }

@@ -19,9 +19,9 @@ ghost use Rattle.log.specs.Stepping.{rowStepBy, RowGoes};
 ghost use Rattle.log.specs.Running.{readAs, Sure};
 ghost use Rattle.printing.specs.Printing.{mostLines, fitsRow, printRows, printCall, printsTo};
 ghost use Rattle.printing.specs.Prints.{answerText, PrintLeaves, TextFits, RowFits, RowPrinted};
-use declared::Reading;
 use moves::Known;
 use property::Property;
+use readings::Reading;
 use session::Answered;
 
 // The number of a row that none can follow in 64 bits.

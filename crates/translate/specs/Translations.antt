@@ -12,8 +12,8 @@ use Rattle.document.specs.States.{statesOf}
 use Rattle.document.specs.Reading as reading
 use Rattle.document.specs.Property as document
 use Rattle.document.specs.Translate.{anew, propertyOf}
-use Rattle.declared.specs.declared.Reading.{Reading}
-use Rattle.declared.specs.Readings.{Stands}
+use Rattle.readings.specs.declared.Reading.{Reading}
+use Rattle.readings.specs.Readings.{Stands}
 use Rattle.sets.specs.Shapes.{shapeOf}
 use Rattle.pattern.specs.declared.Parsed.{Parsed}
 use Rattle.property.specs.declared.Property.{Property}

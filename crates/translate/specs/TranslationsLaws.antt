@@ -21,9 +21,9 @@ use Rattle.document.specs.States.{statesOf}
 use Rattle.document.specs.Translate.{anew, translate}
 use Rattle.rows.specs.RowsLaws.{split-bool}
 use Rattle.words.specs.Taken.{declarations-fit}
-use Rattle.declared.specs.declared.Reading.{Reading}
-use Rattle.declared.specs.Readings.{padded, namesAt, Stands, Reads, Inside}
-use Rattle.declared.specs.ReadingsLaws.{reads-taken, reads-refused}
+use Rattle.readings.specs.declared.Reading.{Reading}
+use Rattle.readings.specs.Readings.{padded, namesAt, Stands, Reads, Inside}
+use Rattle.readings.specs.ReadingsLaws.{reads-taken, reads-refused}
 use Rattle.sets.specs.Shapes.{shapeOf}
 use Rattle.sets.specs.ShapesLaws.{tabulate-is}
 use Rattle.pattern.specs.declared.Parsed.{Parsed}

@@ -37,7 +37,7 @@ fn refused_table(refusal: u8, at: usize) -> Translated
 }
 
 // The property table from declarations and a pattern that were read, or 10.
-fn table_of(d: declared::Reading, t: pattern::Parsed) -> Translated
+fn table_of(d: readings::Reading, t: pattern::Parsed) -> Translated
     requires { ⌜ d .events ≤ mostEvents ⌝ }
     ensures { λ r. ⌜ Tables d t r ⌝ }
 {
@@ -69,11 +69,11 @@ fn table_of(d: declared::Reading, t: pattern::Parsed) -> Translated
 pub fn translate(declarations: &[u8], pattern: &[u8]) -> Translated
     ensures { λ r. ⌜ r ≡ translatedOf (translate (now (declarations .entry)) (now (pattern .entry))) ⌝ }
 {
-    let d = declared::read(declarations);
+    let d = readings::read(declarations);
     if d.refusal != refusals::TAKEN {
         return refused_table(d.refusal, 0);
     }
-    if declared::TEXT_BYTES < pattern.len() {
+    if readings::TEXT_BYTES < pattern.len() {
         return refused_table(refusals::TEXT_TOO_LONG, 0);
     }
     let starts = d.starts;

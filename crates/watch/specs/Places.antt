@@ -9,9 +9,9 @@ use Rattle.document.specs.Refusals.{refusalOf}
 use Rattle.document.specs.Declarations.{declarations}
 use Rattle.rows.specs.RowsLaws.{next-more}
 use Rattle.rows.specs.TextLaws.{next-within}
-use Rattle.declared.specs.Readings.{Reads}
-use Rattle.declared.specs.ReadingsLaws.{reads-taken}
-use Rattle.declared.specs.declared.Reading.{Reading}
+use Rattle.readings.specs.Readings.{Reads}
+use Rattle.readings.specs.ReadingsLaws.{reads-taken}
+use Rattle.readings.specs.declared.Reading.{Reading}
 
 -- a line end that is held has two bytes
 pub row-passed : (s : List ℕ) (at end : ℕ) → end ≡ at + length (firstRow (drop at s)) → end < length s → end + 2 ≤ length s

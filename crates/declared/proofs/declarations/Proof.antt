@@ -1,6 +1,6 @@
 -- `declared::declarations` meets its contract: what `read` finds, without the places.
 -- Assumes nothing.
-use Rattle.declared.specs.ReadingsLaws.{declared-refused, declared-taken}
+use Rattle.declared.specs.AnswersLaws.{declared-refused, declared-taken}
 use Prim.Native.Nat.{_-_}
 use borrow.Author.Needs.{needs}
 use Rattle.declared.proofs.declarations.Statement.{statement}

@@ -1,7 +1,7 @@
 -- `declared::event_name` meets its contract: a name's part, if there is such a name.
 -- Assumes nothing.
 use native.Mathlib.Omega.{arith}
-use Rattle.declared.specs.ReadingsLaws.{event-refused, event-past, event-there, event-inside}
+use Rattle.declared.specs.AnswersLaws.{event-refused, event-past, event-there, event-inside}
 use Prim.Native.Nat.{_-_}
 use borrow.Author.Needs.{needs}
 use Rattle.declared.proofs.event_name.Statement.{statement}

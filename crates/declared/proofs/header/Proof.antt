@@ -2,7 +2,7 @@
 -- Assumes nothing.
 use native.Mathlib.Omega.{arith}
 use Rattle.rows.specs.TextLaws.{row-within}
-use Rattle.declared.specs.ReadingsLaws.{header-refused, header-differs, header-same}
+use Rattle.declared.specs.AnswersLaws.{header-refused, header-differs, header-same}
 use Prim.Native.Nat.{_-_}
 use borrow.Author.Needs.{needs}
 use Rattle.declared.proofs.header.Statement.{statement}

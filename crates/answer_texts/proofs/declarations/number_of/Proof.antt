@@ -1,7 +1,7 @@
 -- `answer_texts::declarations::number_of` is safe: names are looked up in declarations that are taken, whose places lie inside the text.
 -- Assumes nothing.
 use borrow.Author.Needs.{needs}
-use Rattle.declared.specs.ReadingsLaws.{reads-taken}
+use Rattle.readings.specs.ReadingsLaws.{reads-taken}
 use Rattle.answer_texts.proofs.declarations.number_of.Statement.{statement}
 use Rattle.answer_texts.proofs.declarations.number_of.Tie as tie
 
