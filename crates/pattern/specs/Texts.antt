@@ -11,7 +11,7 @@ use Rattle.document.specs.Reading as doc
 use Rattle.sets.specs.declared.Shape.{Shape}
 use Rattle.sets.specs.Shapes.{shapeOf}
 use Rattle.tokens.specs.Lexing.{askMatchKind, askFailKind, lexemesAt}
-use Rattle.pattern.specs.declared.Part.{Part}
+use Rattle.parts.specs.declared.Part.{Part}
 use Rattle.pattern.specs.declared.Parsed.{Parsed}
 
 unfoldable pub refusedText : ℕ → ℕ → Parsed

@@ -23,10 +23,10 @@ use Rattle.tokens.specs.Lexing.{wordKind, endKind, askMatchKind, askFailKind, k
 use Rattle.tokens.specs.Steps.{skipTo, Begins, Sort, Looks}
 use Rattle.tokens.specs.TokensLaws.{lexemes-skip, lexemes-token, lexemes-end, skip-begins}
 use Rattle.tokens.specs.StepsLaws.{mark-here, word-here, mark-missing, step-here, end-here, offset-here}
-use Rattle.pattern.specs.declared.Part.{Part}
+use Rattle.parts.specs.declared.Part.{Part}
 use Rattle.pattern.specs.declared.Parsed.{Parsed}
-use Rattle.pattern.specs.Parts.{Ready, Says, Answers}
-use Rattle.pattern.specs.PartsLaws.{good-is}
+use Rattle.parts.specs.Parts.{Ready, Says, Answers}
+use Rattle.parts.specs.PartsLaws.{good-is}
 use Rattle.pattern.specs.Texts.{refusedText, takenText, parsedOf, askedBy, Asks}
 
 -- `ere` -----------------------------------------------------------------------------------------------------------------

@@ -1,25 +1,21 @@
 // A pattern text (document 01, "The pattern text"): four readers that call each other, and the text around what they read.
-// A reader answers the shape of what it read and the place of the next token, or a refusal and its place. Places are always
-// those of a token, or the text's end: `tokens::look` passes the blanks.
-// The readers are lent the text of the declarations as `events`; `starts`, `sizes` and `count` say where its event names stand.
+// A reader answers a `Part`. It is lent the text of the declarations as `events`; `starts`, `sizes` and `count` say where its
+// event names stand.
 // Interior: the crate `translate` reads a pattern with `parse`.
 ghost use mathlib.Core.Path.{_≡_};
-ghost use Prim.Native.Nat.{ℕ, _≤_, _<_};
-ghost use lib.ListN.{length};
+ghost use Prim.Native.Nat.{_≤_};
 ghost use Rattle.document.specs.Limits.{mostEvents};
 ghost use Rattle.document.specs.Classes.{ereWord};
 ghost use Rattle.document.specs.Tokens.{isWordOf};
 ghost use Rattle.document.specs.Reading.{parse, nextIs, readAlternative, readSequence, readRepetition, readAtom};
 ghost use Rattle.readings.specs.Readings.{namesAt, Inside};
-ghost use Rattle.sets.specs.Shapes.{eitherShape, thenShape};
-ghost use Rattle.tokens.specs.Lexing.{wordKind, lexemesAt};
+ghost use Rattle.tokens.specs.Lexing.{lexemesAt};
 ghost use Rattle.tokens.specs.Steps.{Begins, Looks};
-ghost use Rattle.pattern.specs.Parts.{Ready, Answers, Marked, Joined, takenAt, refusedAt};
+ghost use Rattle.parts.specs.Parts.{Ready, Answers};
 ghost use Rattle.pattern.specs.Texts.{askedBy, refusedText, takenText, parsedOf, Asks};
+use parts::Part;
 
-// Limits of document 01: event names in a pattern, open parentheses.
-pub const MOST_NAMES: usize = 31;
-
+// "a parenthesis opened while 16 are open" is refused.
 pub const MOST_OPEN: usize = 16;
 
 // The verdicts asked for are a set: bit 0 for match, bit 1 for fail.
@@ -31,100 +27,12 @@ const FAIL_ASKED: u8 = 2;
 
 const BOTH_ASKED: u8 = 3;
 
-// What a reader answers: a refusal's number and its place; or the place of the next token, how many event names were read up
-// to there, and the shape of what was read.
-pub struct Part {
-    pub refusal: u8,
-    pub at: usize,
-    pub names: usize,
-    pub shape: sets::Shape,
-}
-
 // What a pattern text says: a refusal's number and its offset; or the verdicts asked for and the shape of the pattern.
 pub struct Parsed {
     pub refusal: u8,
     pub at: usize,
     pub asked: u8,
     pub shape: sets::Shape,
-}
-
-fn taken_at(at: usize, names: usize, shape: sets::Shape) -> Part
-    ensures { λ r. ⌜ r ≡ takenAt at names shape ⌝ }
-{
-    Part {
-        refusal: refusals::TAKEN,
-        at,
-        names,
-        shape,
-    }
-}
-
-fn refused_at(refusal: u8, at: usize) -> Part
-    ensures { λ r. ⌜ r ≡ refusedAt refusal at ⌝ }
-{
-    let shape = sets::empty();
-    Part {
-        refusal,
-        at,
-        names: 0,
-        shape,
-    }
-}
-
-// An event name, which gets the next number, or `epsilon`, which gets none; 7 before 8.
-fn word<'a, 'b, 'c>(
-    text: &'a [u8],
-    at: usize,
-    t: tokens::Step,
-    names: usize,
-    depth: usize,
-    events: &'b [u8],
-    starts: &'c [usize; 16],
-    sizes: &'c [usize; 16],
-    count: usize,
-) -> Part
-    requires { ⌜ Ready (now text) at names depth (now events) (now starts) (now sizes) count × (Looks (now text) at t × (t .kind ≡ wordKind)) ⌝ }
-    ensures { λ r. ⌜ Answers (readAtom (namesAt (now (events .entry)) count (now (starts .entry)) (now (sizes .entry)))) 0 (now (text .entry)) at names depth r ⌝ }
-{
-    let end = t.end;
-    let name = &text[at..end];
-    let number = names + 1;
-    if rows::same(name, b"epsilon") {
-        let shape = sets::empty();
-        return taken_at(t.next, names, shape);
-    }
-    let event = readings::find(events, starts, sizes, count, name);
-    if count <= event {
-        return refused_at(refusals::UNDECLARED_EVENT, at);
-    }
-    if MOST_NAMES <= names {
-        return refused_at(refusals::TOO_MANY_NAMES, at);
-    }
-    let shape = sets::leaf(number, event);
-    taken_at(t.next, number, shape)
-}
-
-// What the `*` and `+` after an atom make of it.
-fn marks(text: &[u8], a: Part) -> Part
-    requires { ⌜ (a .refusal ≡ 0) × Begins (now text) (a .at) ⌝ }
-    ensures { λ r. ⌜ Marked (now (text .entry)) a r ⌝ }
-{
-    let mut r = a;
-    loop {
-        let t = tokens::look(text, r.at);
-        let shape = r.shape;
-        if t.kind == classes::STAR {
-            let more = sets::star(shape);
-            r.shape = more;
-            r.at = t.next;
-        } else if t.kind == classes::PLUS {
-            let more = sets::plus(shape);
-            r.shape = more;
-            r.at = t.next;
-        } else {
-            return r;
-        }
-    }
 }
 
 // An event name, `epsilon`, or an alternative in parentheses. The nesting is judged before the alternative is read, so that
@@ -144,13 +52,13 @@ pub fn atom<'a, 'b, 'c>(
 {
     let t = tokens::look(text, at);
     if t.kind == tokens::WORD {
-        return word(text, at, t, names, depth, events, starts, sizes, count);
+        return parts::word(text, at, t, names, depth, events, starts, sizes, count);
     }
     if t.kind != classes::OPENING {
-        return refused_at(refusals::NOT_OF_GRAMMAR, at);
+        return parts::refused_at(refusals::NOT_OF_GRAMMAR, at);
     }
     if MOST_OPEN <= depth {
-        return refused_at(refusals::TOO_DEEP, at);
+        return parts::refused_at(refusals::TOO_DEEP, at);
     }
     let a = alternative(text, t.next, names, depth + 1, events, starts, sizes, count);
     if a.refusal != refusals::TAKEN {
@@ -158,10 +66,10 @@ pub fn atom<'a, 'b, 'c>(
     }
     let u = tokens::look(text, a.at);
     if u.kind != classes::CLOSING {
-        return refused_at(refusals::NOT_OF_GRAMMAR, a.at);
+        return parts::refused_at(refusals::NOT_OF_GRAMMAR, a.at);
     }
     let shape = a.shape;
-    taken_at(u.next, a.names, shape)
+    parts::taken_at(u.next, a.names, shape)
 }
 
 // An atom followed by any number of `*` or `+`.
@@ -182,33 +90,7 @@ pub fn repetition<'a, 'b, 'c>(
     if a.refusal != refusals::TAKEN {
         return a;
     }
-    marks(text, a)
-}
-
-// A part and the one after it, side by side; a refusal of the second stands.
-fn beside(a: Part, b: Part) -> Part
-    ensures { λ r. ⌜ Joined thenShape a b r ⌝ }
-{
-    if b.refusal != refusals::TAKEN {
-        return b;
-    }
-    let x = a.shape;
-    let y = b.shape;
-    let shape = sets::sequence(x, y);
-    taken_at(b.at, b.names, shape)
-}
-
-// The same, with a `|` between them.
-fn either(a: Part, b: Part) -> Part
-    ensures { λ r. ⌜ Joined eitherShape a b r ⌝ }
-{
-    if b.refusal != refusals::TAKEN {
-        return b;
-    }
-    let x = a.shape;
-    let y = b.shape;
-    let shape = sets::alternative(x, y);
-    taken_at(b.at, b.names, shape)
+    parts::marks(text, a)
 }
 
 // One or more repetitions side by side.
@@ -234,7 +116,7 @@ pub fn sequence<'a, 'b, 'c>(
         return a;
     }
     let b = sequence(text, a.at, a.names, depth, events, starts, sizes, count);
-    beside(a, b)
+    parts::beside(a, b)
 }
 
 // One or more sequences separated by `|`.
@@ -260,7 +142,7 @@ pub fn alternative<'a, 'b, 'c>(
         return a;
     }
     let b = alternative(text, t.next, a.names, depth, events, starts, sizes, count);
-    either(a, b)
+    parts::either(a, b)
 }
 
 fn refused_text(refusal: u8, at: usize) -> Parsed

@@ -1,9 +1,9 @@
 -- The four readers of `pattern` meet their contracts. What falls is four times what is left of the text and the reader's kind:
 -- an alternative 3, a sequence 2, a repetition 1, an atom 0.
 -- Assumes nothing.
-use Rattle.pattern.specs.ReadersLaws.{alternative-refused, alternative-over, alternative-joined, repetition-refused, repetition-marked, sequence-refused, sequence-over, sequence-joined}
-use Rattle.pattern.specs.AtomsLaws.{atom-missing, atom-deep, atom-stopped, atom-open, atom-closed}
-use Rattle.pattern.specs.PartsLaws.{begins-after, ready-after, ready-past, ready-inside, falls-beside, falls-bar, falls-inside}
+use Rattle.parts.specs.ReadersLaws.{alternative-refused, alternative-over, alternative-joined, repetition-refused, repetition-marked, sequence-refused, sequence-over, sequence-joined}
+use Rattle.parts.specs.AtomsLaws.{atom-missing, atom-deep, atom-stopped, atom-open, atom-closed}
+use Rattle.parts.specs.PartsLaws.{begins-after, ready-after, ready-past, ready-inside, falls-beside, falls-bar, falls-inside}
 use Prim.Native.Nat.{ℕ, _+_, _-_, _*_, _<_}
 use native.Mathlib.Omega.{arith}
 use borrow.Author.Needs.{needs}
@@ -22,12 +22,12 @@ use Rattle.pattern.proofs.+alternative+atom+repetition+sequence.Lts-rep
 use Rattle.pattern.proofs.sequence.Reads as sequence
 use Rattle.pattern.proofs.sequence.Kinds as sequence-kinds
 use Rattle.pattern.proofs.+alternative+atom+repetition+sequence.Lts-sequence as sequence-lts
-use Rattle.pattern.proofs.beside.Reads as beside-reads
-use Rattle.pattern.proofs.either.Reads as either-reads
-use Rattle.pattern.proofs.marks.Reads as marks-reads
-use Rattle.pattern.proofs.refused_at.Reads as refused-at-reads
-use Rattle.pattern.proofs.taken_at.Reads as taken-at-reads
-use Rattle.pattern.proofs.word.Reads as word-reads
+use Rattle.parts.proofs.beside.Reads as beside-reads
+use Rattle.parts.proofs.either.Reads as either-reads
+use Rattle.parts.proofs.marks.Reads as marks-reads
+use Rattle.parts.proofs.refused_at.Reads as refused-at-reads
+use Rattle.parts.proofs.taken_at.Reads as taken-at-reads
+use Rattle.parts.proofs.word.Reads as word-reads
 use Rattle.tokens.proofs.begins_atom.Reads as begins-atom-reads
 use Rattle.tokens.proofs.look.Reads as look-reads
 use Rattle.pattern.proofs.+alternative+atom+repetition+sequence.{statement}

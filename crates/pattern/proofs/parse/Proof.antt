@@ -1,7 +1,7 @@
 -- `pattern::parse` meets its contract: `ere`, `:`, an alternative, and what is asked for, each at the tokens that the one before it leaves.
 -- Assumes nothing.
 use Rattle.pattern.specs.TextsLaws.{start-begins, parse-no-ere, parse-no-colon, parse-refused, parse-asks, ready-first}
-use Rattle.pattern.specs.PartsLaws.{begins-after}
+use Rattle.parts.specs.PartsLaws.{begins-after}
 use Prim.Native.Nat.{_-_}
 use borrow.Author.Needs.{needs}
 use Rattle.pattern.proofs.parse.Statement.{statement}

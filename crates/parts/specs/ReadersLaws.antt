@@ -21,9 +21,9 @@ use Rattle.tokens.specs.declared.Step.{Step}
 use Rattle.tokens.specs.Lexing.{beginsKind, lexemesAt}
 use Rattle.tokens.specs.Steps.{Begins, Looks}
 use Rattle.tokens.specs.StepsLaws.{mark-here, mark-missing, atom-test, step-past, step-fewer}
-use Rattle.pattern.specs.declared.Part.{Part}
-use Rattle.pattern.specs.Parts.{Says, Goes, Answers, Marked, Joined, takenAt}
-use Rattle.pattern.specs.PartsLaws.{good-is, stops, stopped-goes, answers, joined, later-goes}
+use Rattle.parts.specs.declared.Part.{Part}
+use Rattle.parts.specs.Parts.{Says, Goes, Answers, Marked, Joined, takenAt}
+use Rattle.parts.specs.PartsLaws.{good-is, stops, stopped-goes, answers, joined, later-goes}
 
 -- An alternative -------------------------------------------------------------------------------------------------------
 

@@ -19,8 +19,8 @@ use Rattle.tokens.specs.declared.Step.{Step}
 use Rattle.tokens.specs.Lexing.{lexemesAt}
 use Rattle.tokens.specs.Steps.{Begins, Looks}
 use Rattle.tokens.specs.StepsLaws.{step-past, offset-here}
-use Rattle.pattern.specs.declared.Part.{Part}
-use Rattle.pattern.specs.Parts.{Ready, Says, Goes, Answers, Joined, takenAt, refusedAt}
+use Rattle.parts.specs.declared.Part.{Part}
+use Rattle.parts.specs.Parts.{Ready, Says, Goes, Answers, Joined, takenAt, refusedAt}
 
 -- the pattern of an answer that is not refused
 pub record Good (s : List ℕ) (R : Reading) (a : Part) : Type 0 where

@@ -1,11 +1,11 @@
--- `pattern::marks` meets its contract: the marks that are left make of the part so far what all of them make of the atom.
+-- `parts::marks` meets its contract: the marks that are left make of the part so far what all of them make of the atom.
 -- Assumes nothing.
 use lib.ListN.{length}
-use Rattle.pattern.specs.ReadersLaws.{Marking, marks-first, star-less, plus-less, marks-star, marks-plus, marks-over}
+use Rattle.parts.specs.ReadersLaws.{Marking, marks-first, star-less, plus-less, marks-star, marks-plus, marks-over}
 use Prim.Native.Nat.{_-_}
 use borrow.Author.Needs.{needs}
-use Rattle.pattern.proofs.marks.Statement.{statement}
-use Rattle.pattern.proofs.marks.Tie as tie
+use Rattle.parts.proofs.marks.Statement.{statement}
+use Rattle.parts.proofs.marks.Tie as tie
 
 abbrev Inv-loop : tie.InvT-loop
 Inv-loop text r₀ r = Marking text r₀ r

@@ -15,7 +15,7 @@ use Rattle.sets.specs.declared.Shape.{Shape}
 use Rattle.sets.specs.Shapes.{shapeOf}
 use Rattle.tokens.specs.Lexing.{lexemesAt}
 use Rattle.tokens.specs.Steps.{Begins}
-use Rattle.pattern.specs.declared.Part.{Part}
+use Rattle.parts.specs.declared.Part.{Part}
 
 -- what a reader is given: the place of a token, few names before it, few open parentheses, and where the declared names stand
 pub record Ready (s : List ℕ) (at n d : ℕ) (text starts sizes : List ℕ) (events : ℕ) : Type 0 where

@@ -24,9 +24,9 @@ use Rattle.tokens.specs.declared.Step.{Step}
 use Rattle.tokens.specs.Lexing.{wordKind, lexemesAt}
 use Rattle.tokens.specs.Steps.{Begins, Looks}
 use Rattle.tokens.specs.StepsLaws.{mark-here, word-here, mark-missing, atom-test, step-past, step-fewer}
-use Rattle.pattern.specs.declared.Part.{Part}
-use Rattle.pattern.specs.Parts.{Ready, Says, Goes, Answers, takenAt, refusedAt}
-use Rattle.pattern.specs.PartsLaws.{good-is, stops, refused-says, stopped-goes, refused-goes, answers}
+use Rattle.parts.specs.declared.Part.{Part}
+use Rattle.parts.specs.Parts.{Ready, Says, Goes, Answers, takenAt, refusedAt}
+use Rattle.parts.specs.PartsLaws.{good-is, stops, refused-says, stopped-goes, refused-goes, answers}
 
 -- a name that stands at a place
 module _ (text starts sizes : List ℕ) (events : ℕ) (s : List ℕ) (at n d : ℕ) (ready : Ready s at n d text starts sizes events)

@@ -1,10 +1,10 @@
--- `pattern::either` meets its contract: a refusal of the second, or an alternative of both.
+-- `parts::either` meets its contract: a refusal of the second, or an alternative of both.
 -- Assumes nothing.
-use Rattle.pattern.specs.PartsLaws.{joined-stopped, joined-taken}
+use Rattle.parts.specs.PartsLaws.{joined-stopped, joined-taken}
 use Prim.Native.Nat.{_-_}
 use borrow.Author.Needs.{needs}
-use Rattle.pattern.proofs.either.Statement.{statement}
-use Rattle.pattern.proofs.either.Tie as tie
+use Rattle.parts.proofs.either.Statement.{statement}
+use Rattle.parts.proofs.either.Tie as tie
 
 returns : tie.Need-returns
 returns c = search (needs, joined-stopped)

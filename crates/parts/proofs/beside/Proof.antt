@@ -1,10 +1,10 @@
--- `pattern::beside` meets its contract: a refusal of the second, or both side by side.
+-- `parts::beside` meets its contract: a refusal of the second, or both side by side.
 -- Assumes nothing.
-use Rattle.pattern.specs.PartsLaws.{joined-stopped, joined-taken}
+use Rattle.parts.specs.PartsLaws.{joined-stopped, joined-taken}
 use Prim.Native.Nat.{_-_}
 use borrow.Author.Needs.{needs}
-use Rattle.pattern.proofs.beside.Statement.{statement}
-use Rattle.pattern.proofs.beside.Tie as tie
+use Rattle.parts.proofs.beside.Statement.{statement}
+use Rattle.parts.proofs.beside.Tie as tie
 
 returns : tie.Need-returns
 returns c = search (needs, joined-stopped)

@@ -1,10 +1,10 @@
--- `pattern::word` meets its contract: `epsilon`, an undeclared name, one too many, a name.
+-- `parts::word` meets its contract: `epsilon`, an undeclared name, one too many, a name.
 -- Assumes nothing.
-use Rattle.pattern.specs.AtomsLaws.{word-epsilon, word-undeclared, word-many, word-taken}
+use Rattle.parts.specs.AtomsLaws.{word-epsilon, word-undeclared, word-many, word-taken}
 use Prim.Native.Nat.{_-_}
 use borrow.Author.Needs.{needs}
-use Rattle.pattern.proofs.word.Statement.{statement}
-use Rattle.pattern.proofs.word.Tie as tie
+use Rattle.parts.proofs.word.Statement.{statement}
+use Rattle.parts.proofs.word.Tie as tie
 
 sub-name : tie.Need-sub-name
 sub-name c = search needs

@@ -1,10 +1,10 @@
--- `pattern::refused_at` meets its contract.
+-- `parts::refused_at` meets its contract.
 -- Assumes nothing.
-use Rattle.pattern.specs.Parts.{refusedAt}
+use Rattle.parts.specs.Parts.{refusedAt}
 use Prim.Native.Nat.{_-_}
 use borrow.Author.Needs.{needs}
-use Rattle.pattern.proofs.refused_at.Statement.{statement}
-use Rattle.pattern.proofs.refused_at.Tie as tie
+use Rattle.parts.proofs.refused_at.Statement.{statement}
+use Rattle.parts.proofs.refused_at.Tie as tie
 
 empty-requires : tie.Need-empty-requires
 empty-requires c κs = search needs

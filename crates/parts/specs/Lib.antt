@@ -1,0 +1,4 @@
+pub mod Parts
+pub mod PartsLaws
+pub mod AtomsLaws
+pub mod ReadersLaws
