@@ -1,4 +1,3 @@
 pub mod Sound
 pub mod RowsLaws
-pub mod JoinLaws
 pub mod SoundLaws

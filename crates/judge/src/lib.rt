@@ -1,20 +1,17 @@
-// The session check, refusal 12 (document 01, "Numbers of refusal"), alone, and the join of the seen rows that a combination
-// includes ("One event"). It compares in place and alters nothing. Above `combos`.
+// The session check, refusal 12 (document 01, "Numbers of refusal"), alone. It compares in place and alters nothing. Above
+// `joins`.
 ghost use mathlib.Core.Path.{_≡_};
-ghost use mathlib.Core.Bool.{true, not, _&&_};
-ghost use Prim.Native.Nat.{ℕ, _+_, _*_, _<_, _≤_};
+ghost use Prim.Native.Nat.{_*_, _≤_};
 ghost use lib.ListN.{length};
-ghost use Rattle.document.specs.Lists.{every, equal};
-ghost use Rattle.document.specs.Limits.{width, seenStride, keptStride, mostStates};
+ghost use Rattle.document.specs.Lists.{every};
+ghost use Rattle.document.specs.Limits.{seenStride, keptStride, mostStates};
 ghost use Rattle.document.specs.Positions.{holds};
-ghost use Rattle.document.specs.Combinations.{emptyOf, zeroPast};
-ghost use Rattle.document.specs.OneEvent.{joinSeen};
+ghost use Rattle.document.specs.Combinations.{zeroPast};
 ghost use Rattle.document.specs.Tables.{seenRows, keptRows, seenRoom, keptRoom};
 ghost use Rattle.document.specs.Session.{ascending, zeroBetween};
 ghost use Rattle.combos.specs.Rows.{SeenInOrder};
 ghost use Rattle.judge.specs.Sound.{rightlyKeptBy, soundBy, sessionOf, rowsOf, Rows};
 ghost use Rattle.judge.specs.RowsLaws.{notEmpty};
-ghost use Rattle.judge.specs.JoinLaws.{gathered, coversAt, Joins};
 ghost use Rattle.judge.specs.SoundLaws.{seenStands, keptStands};
 use combos::Combination;
 use combos::KEPT_STRIDE;
@@ -25,75 +22,6 @@ use combos::WIDTH;
 pub const MOST_SEEN: usize = 1024;
 
 pub const MOST_KEPT: usize = 3000;
-
-// Sets of parameters, as bits.
-const SETS: u64 = 1 << WIDTH;
-
-// Joins of seen rows ----------------------------------------------------------------------------------------------------
-
-// The join so far, with the restriction of c to one set of parameters more if that is seen.
-fn gather(acc: Combination, set: u64, c: Combination, seen: &[u32], n: usize) -> Combination
-    requires { ⌜ SeenInOrder n (now seen) ⌝ }
-    ensures { λ r. ⌜ r ≡ gathered set c (seenRows n (now (seen .entry))) acc ⌝ }
-{
-    let part = combos::restricted(set, c);
-    if !combos::binds_exactly(set, part) {
-        return acc;
-    }
-    if combos::includes(acc, part) {
-        return acc;
-    }
-    if !combos::seen_holds(seen, n, part) {
-        return acc;
-    }
-    combos::join(acc, part)
-}
-
-// The join of the seen rows that c includes.
-pub fn join_seen(c: Combination, seen: &[u32], n: usize) -> Combination
-    requires { ⌜ SeenInOrder n (now seen) ⌝ }
-    ensures { λ r. ⌜ r ≡ joinSeen width c (seenRows n (now (seen .entry))) ⌝ }
-{
-    let mut acc = [0u32; WIDTH];
-    let mut set = SETS;
-    while 0 < set {
-        set -= 1;
-        let next = gather(acc, set, c, seen, n);
-        acc = next;
-    }
-    acc
-}
-
-// Whether k includes the restriction of c to one set of parameters, if that is seen.
-fn covers(k: Combination, set: u64, c: Combination, seen: &[u32], n: usize) -> bool
-    requires { ⌜ SeenInOrder n (now seen) ⌝ }
-    ensures { λ r. ⌜ r ≡ coversAt set c k (seenRows n (now (seen .entry))) ⌝ }
-{
-    let part = combos::restricted(set, c);
-    if !combos::binds_exactly(set, part) {
-        return true;
-    }
-    if combos::includes(k, part) {
-        return true;
-    }
-    !combos::seen_holds(seen, n, part)
-}
-
-// Whether the join of the seen rows that c includes is k, where k is such a join and c includes it: one seen row that c
-// includes and k does not refutes it.
-pub fn joins_to(c: Combination, k: Combination, seen: &[u32], n: usize) -> bool
-    requires { ⌜ SeenInOrder n (now seen) × Joins n (now seen) c k ⌝ }
-    ensures { λ r. ⌜ r ≡ equal (joinSeen width c (seenRows n (now (seen .entry)))) k ⌝ }
-{
-    let mut set = SETS;
-    while 0 < set {
-        set -= 1;
-        if !covers(k, set, c, seen, n) {
-            return false;
-        }
-    }
-    true
-}
 
 // Clauses of the check --------------------------------------------------------------------------------------------------
 
@@ -183,7 +111,7 @@ fn rightly_kept(
     if !bits::has(hopeful, state) {
         return false;
     }
-    combos::equal(join_seen(c, seen, n), c)
+    combos::equal(joins::join_seen(c, seen, n), c)
 }
 
 // The same of each kept row.

@@ -18,8 +18,8 @@ use Rattle.document.specs.Patterns.{match}
 use Rattle.document.specs.Refusals.{Refusal, textTooLong, badShape, badName, nameTwice, overLimits, notOfGrammar, undeclaredEvent, tooManyNames, tooDeep, tooManyStates, badProperty, badSession, noSuchEvent, wrongValues, noRoomForSeen, noRoomForKept, noRoomForReports, badRow, unknownEvent, badValue, wrongFields, headerDiffers, badLookup, offsetPastLog, tableDiffers, number}
 use Rattle.document.specs.Printing.{decimal, wordOf, withCommas, valueText, line, reportLine, reportLines, refusedLine}
 use Rattle.rows.specs.RowsLaws.{split-bool}
-use Rattle.lines.specs.Decimals.{valueDigits}
-use Rattle.lines.specs.DecimalsLaws.{decimal-usize, decimal-value, decimal-byte}
+use Rattle.decimals.specs.Decimals.{valueDigits}
+use Rattle.decimals.specs.DecimalsLaws.{decimal-usize, decimal-value, decimal-byte}
 use Rattle.lines.specs.Lines.{refusedNumberText, refusedNumberLine, mostValue, mostLine}
 use Rattle.lines.specs.LinesLaws.{commas-are, refused-line-number}
 

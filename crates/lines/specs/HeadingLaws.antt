@@ -27,8 +27,8 @@ use Rattle.words.specs.Taken.{taken-injective, refuse-if-taken, and-then-taken}
 use Rattle.rows.specs.RowsLaws.{split-bool}
 use Rattle.rows.specs.SplitLaws.{parts-first}
 use Rattle.rows.specs.TextLaws.{first-part, first-within}
-use Rattle.lines.specs.Written.{Written}
-use Rattle.lines.specs.WrittenLaws.{written-then, written-as, written-within}
+use Rattle.decimals.specs.Written.{Written}
+use Rattle.decimals.specs.WrittenLaws.{written-then, written-as, written-within}
 use Rattle.lines.specs.Lines.{namesOf, headingOf, mostNames, mostHeading, lineEndBytes}
 
 -- A row is its fields with commas between ---------------------------------------------------------------------------------

@@ -10,7 +10,7 @@ use Rattle.document.specs.Classes.{matchWord}
 use Rattle.document.specs.Refusals.{Answer, taken, refused}
 use Rattle.document.specs.Declarations.{Declared}
 use Rattle.document.specs.Printing.{decimal, lineEnd, rowWord, verdictWord, refusedWord, valueText, withCommas, line}
-use Rattle.lines.specs.Decimals.{mostDigits, valueDigits, refusalDigits}
+use Rattle.decimals.specs.Decimals.{mostDigits, valueDigits, refusalDigits}
 
 -- values, each with its comma
 unfoldable pub valuesText : List ℕ → List ℕ

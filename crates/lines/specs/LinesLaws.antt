@@ -15,10 +15,10 @@ use Rattle.document.specs.Classes.{comma, matchWord, failWord}
 use Rattle.document.specs.Patterns.{match}
 use Rattle.document.specs.Refusals.{Refusal, number}
 use Rattle.document.specs.Printing.{decimal, lineEnd, refusedWord, wordOf, refusedText, withCommas, valueText, line, reportLine, reportLines, refusedLine}
-use Rattle.lines.specs.Written.{Written}
-use Rattle.lines.specs.WrittenLaws.{written-none, written-byte, written-then, written-within}
-use Rattle.lines.specs.Decimals.{mostDigits}
-use Rattle.lines.specs.DecimalsLaws.{decimal-usize, decimal-value, decimal-byte}
+use Rattle.decimals.specs.Written.{Written}
+use Rattle.decimals.specs.WrittenLaws.{written-none, written-byte, written-then, written-within}
+use Rattle.decimals.specs.Decimals.{mostDigits}
+use Rattle.decimals.specs.DecimalsLaws.{decimal-usize, decimal-value, decimal-byte}
 use Rattle.lines.specs.Lines.{valuesText, refusedNumberText, refusedNumberLine, mostValue, mostValues, mostVerdict, mostRefused, mostLine, mostRefusal, lineEndBytes}
 
 -- A number with the widest bound; a value ---------------------------------------------------------------------------------

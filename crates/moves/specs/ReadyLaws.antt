@@ -19,7 +19,7 @@ use Rattle.slices.specs.TestsLaws.{so, true-of, either}
 use Rattle.slices.specs.CombinationsLaws.{join-includes-right, length-join}
 use Rattle.slices.specs.ListsLaws.{length-tabulate}
 use Rattle.slices.specs.OrderLaws.{insertSeen-after, insertSeen-here}
-use Rattle.judge.specs.JoinLaws.{Joins}
+use Rattle.joins.specs.JoinLaws.{Joins}
 use Rattle.tables.specs.Tables.{rowAt, keptFrom}
 use Rattle.tables.specs.TablesLaws.{row-in}
 use Rattle.moves.specs.Steps.{one, isNew, stepOf, movesAt}

@@ -88,7 +88,7 @@ pub fn creates(fresh: bool, b: Combination, k: Combination, seen: &[u32], n: usi
     if !combos::compatible(b, k) {
         return false;
     }
-    judge::joins_to(combos::join(b, k), k, seen, n)
+    joins::joins_to(combos::join(b, k), k, seen, n)
 }
 
 // Whether the row of a combination moves: in place where it includes the binding.

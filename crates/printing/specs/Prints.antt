@@ -14,7 +14,7 @@ use Rattle.document.specs.Session.{Happened, sound, leaves}
 use Rattle.document.specs.Log.{nextAt}
 use Rattle.document.specs.Printing.{reportLines, refusedLine}
 use Rattle.judge.specs.Sound.{sessionOf}
-use Rattle.lines.specs.Written.{Written}
+use Rattle.decimals.specs.Written.{Written}
 use Rattle.lines.specs.Lines.{refusedNumberLine, mostLine}
 use Rattle.runs.specs.PrintPart.{PrintedTo, linesFirst}
 use Rattle.session.specs.declared.Answered.{Answered}

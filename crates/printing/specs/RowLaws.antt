@@ -23,7 +23,7 @@ use Rattle.reader.specs.HandingLaws.{next-at-end}
 use Rattle.slices.specs.TestsLaws.{so, true-of, and-of}
 use Rattle.slices.specs.ListsLaws.{length-tabulate}
 use Rattle.judge.specs.Sound.{sessionOf}
-use Rattle.lines.specs.Written.{Written}
+use Rattle.decimals.specs.Written.{Written}
 use Rattle.lines.specs.Lines.{refusedNumberLine, mostLine}
 use Rattle.lines.specs.LinesLaws.{refused-line-number}
 use Rattle.moves.specs.Steps.{stepOf, stateIn, outcomeBy}

@@ -15,7 +15,7 @@ use Rattle.document.specs.Log.{stepRow, rowAt, nextAt, agrees}
 use Rattle.rows.specs.TextLaws.{next-later}
 use Rattle.entries.specs.Entries.{declaredAt}
 use Rattle.judge.specs.Sound.{sessionOf}
-use Rattle.lines.specs.WrittenLaws.{written-none, written-then, written-length}
+use Rattle.decimals.specs.WrittenLaws.{written-none, written-then, written-length}
 use Rattle.moves.specs.declared.Known.{Known}
 use Rattle.runs.specs.PrintPart.{rowText, PrintedTo, nothingPrinted, linesFirst}
 use Rattle.runs.specs.SoundRuns.{row-sound}

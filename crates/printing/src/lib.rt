@@ -14,7 +14,7 @@ ghost use Rattle.document.specs.Log.{rowAt};
 ghost use Rattle.property.specs.Meaning.{meaning};
 ghost use Rattle.judge.specs.Sound.{sessionOf};
 ghost use Rattle.entries.specs.Entries.{declaredAt};
-ghost use Rattle.lines.specs.Written.{Written};
+ghost use Rattle.decimals.specs.Written.{Written};
 ghost use Rattle.log.specs.Stepping.{rowStepBy, RowGoes};
 ghost use Rattle.log.specs.Running.{readAs, Sure};
 ghost use Rattle.printing.specs.Printing.{mostLines, fitsRow, printRows, printCall, printsTo};

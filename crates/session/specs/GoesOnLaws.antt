@@ -30,7 +30,7 @@ use Rattle.slices.specs.SessionLaws.{Fits, seenOf-with, keptOf-with, seenRoom-w
 use Rattle.slices.specs.HoldsLaws.{binding-zeroPast}
 use Rattle.judge.specs.Sound.{rightlyKeptBy, soundBy-sound, sessionOf}
 use Rattle.judge.specs.SoundLaws.{Clauses, clauses-of, of-clauses}
-use Rattle.judge.specs.JoinLaws.{seen-width}
+use Rattle.joins.specs.JoinLaws.{seen-width}
 use Rattle.moves.specs.Steps.{isNew}
 use Rattle.moves.specs.MovesLaws.{moves-of, in-moved}
 use Rattle.moves.specs.ReadyLaws.{see-new, see-old}

@@ -252,5 +252,5 @@ pub fn lookup(p: Property, seen: &[u32], n: usize, kept: &[u32], m: usize, c: Co
         return nothing_held(refusals::BAD_LOOKUP);
     }
     let verdicts = p.verdicts;
-    find_kept(&verdicts, kept, m, judge::join_seen(c, seen, n))
+    find_kept(&verdicts, kept, m, joins::join_seen(c, seen, n))
 }

@@ -4,7 +4,7 @@ use Prim.Native.Nat.{_≤_, _+_, _-_}
 use mathlib.Core.Path.{_≡_}
 use lib.ListN.{length, replicate, length-set}
 use Rattle.document.specs.Classes.{comma}
-use Rattle.lines.specs.Written.{Written}
+use Rattle.decimals.specs.Written.{Written}
 use Rattle.lines.specs.LinesLaws.{commas-begin, commas-turn, commas-end}
 use borrow.Author.Needs.{needs}
 use Rattle.lines.proofs.put_commas.Statement.{statement}

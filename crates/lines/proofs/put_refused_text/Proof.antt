@@ -1,7 +1,7 @@
 -- `lines::put_refused_text` meets its contract.
 -- Assumes nothing.
 use native.Mathlib.Omega.{arith}
-use Rattle.lines.specs.DecimalsLaws.{decimal-byte}
+use Rattle.decimals.specs.DecimalsLaws.{decimal-byte}
 use Rattle.lines.specs.LinesLaws.{refused-text-written}
 use borrow.Author.Needs.{needs}
 use Rattle.lines.proofs.put_refused_text.Statement.{statement}

@@ -5,7 +5,7 @@ use mathlib.Core.Path.{_≡_}
 use lib.ListN.{length}
 use Rattle.document.specs.Limits.{width, reportStride}
 use Rattle.document.specs.Printing.{reportLines}
-use Rattle.lines.specs.Written.{Written}
+use Rattle.decimals.specs.Written.{Written}
 use Rattle.lines.specs.Lines.{mostLine}
 use Rattle.lines.specs.LinesLaws.{reports-begin, reports-turn, reports-end}
 use borrow.Author.Needs.{needs}

@@ -1,7 +1,7 @@
 -- `lines::put_row_number` meets its contract.
 -- Assumes nothing.
 use native.Mathlib.Omega.{arith}
-use Rattle.lines.specs.DecimalsLaws.{decimal-usize}
+use Rattle.decimals.specs.DecimalsLaws.{decimal-usize}
 use Rattle.lines.specs.LinesLaws.{number-written}
 use borrow.Author.Needs.{needs}
 use Rattle.lines.proofs.put_row_number.Statement.{statement}

@@ -1,7 +1,7 @@
 -- `lines::put_value` meets its contract.
 -- Assumes nothing.
 use native.Mathlib.Omega.{arith}
-use Rattle.lines.specs.DecimalsLaws.{decimal-value}
+use Rattle.decimals.specs.DecimalsLaws.{decimal-value}
 use Rattle.lines.specs.LinesLaws.{value-unbound, value-bound}
 use borrow.Author.Needs.{needs}
 use Rattle.lines.proofs.put_value.Statement.{statement}

@@ -4,7 +4,7 @@ use Prim.Native.Nat.{_≤_, _+_, _-_, _*_}
 use mathlib.Core.Path.{_≡_}
 use lib.ListN.{length, take, drop}
 use Rattle.document.specs.Limits.{width}
-use Rattle.lines.specs.Written.{Written}
+use Rattle.decimals.specs.Written.{Written}
 use Rattle.lines.specs.Lines.{valuesText, mostValue, mostValues}
 use Rattle.lines.specs.LinesLaws.{values-begin, values-turn, values-end}
 use borrow.Author.Needs.{needs}

@@ -1,13 +1,13 @@
--- `lines::put_bytes` meets its contract: the first bytes of the word stand.
+-- `decimals::put_bytes` meets its contract: the first bytes of the word stand.
 -- Assumes nothing.
 use Prim.Native.Nat.{_≤_, _+_, _-_}
 use mathlib.Core.Path.{_≡_}
 use lib.ListN.{length, take, length-set}
-use Rattle.lines.specs.Written.{Written}
-use Rattle.lines.specs.WrittenLaws.{word-begins, word-turn, word-ends}
+use Rattle.decimals.specs.Written.{Written}
+use Rattle.decimals.specs.WrittenLaws.{word-begins, word-turn, word-ends}
 use borrow.Author.Needs.{needs}
-use Rattle.lines.proofs.put_bytes.Statement.{statement}
-use Rattle.lines.proofs.put_bytes.Tie as tie
+use Rattle.decimals.proofs.put_bytes.Statement.{statement}
+use Rattle.decimals.proofs.put_bytes.Tie as tie
 
 abbrev Inv-loop : tie.InvT-loop
 Inv-loop text₀ at word i₀ text i = (i ≤ length word) × (at + length word ≤ length text) × (length text ≡ length text₀) × Written at i (take i word) text₀ text (at + i)

@@ -8,10 +8,10 @@ use native.Mathlib.Nat.{pow-le-pow-right}
 use lib.ListN.{length, set}
 use Rattle.document.specs.Classes.{zeroByte}
 use Rattle.document.specs.Printing.{decimal}
-use Rattle.lines.specs.Written.{Written}
-use Rattle.lines.specs.WrittenLaws.{written-none, written-before, written-as}
-use Rattle.lines.specs.Decimals.{withoutLast, lastDigits, sureDigits}
-use Rattle.lines.specs.DecimalsLaws.{decimal-last, decimal-some, decimal-least, decimal-most, decimal-usize}
+use Rattle.decimals.specs.Written.{Written}
+use Rattle.decimals.specs.WrittenLaws.{written-none, written-before, written-as}
+use Rattle.decimals.specs.Decimals.{withoutLast, lastDigits, sureDigits}
+use Rattle.decimals.specs.DecimalsLaws.{decimal-last, decimal-some, decimal-least, decimal-most, decimal-usize}
 
 -- The loop that counts digits: there are at least n, and the power is that of n digits.
 pub record Counting (x n power : ℕ) : Type 0 where

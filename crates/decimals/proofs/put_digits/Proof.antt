@@ -1,12 +1,12 @@
--- `lines::put_digits` meets its contract: the digits from the place reached on stand.
+-- `decimals::put_digits` meets its contract: the digits from the place reached on stand.
 -- Assumes nothing.
 use Prim.Native.Nat.{_≤_, _+_}
 use mathlib.Core.Path.{_≡_}
 use lib.ListN.{length, length-set}
-use Rattle.lines.specs.DigitTurnsLaws.{Writing, writing-begins, writing-turn, writing-ends}
+use Rattle.decimals.specs.DigitTurnsLaws.{Writing, writing-begins, writing-turn, writing-ends}
 use borrow.Author.Needs.{needs}
-use Rattle.lines.proofs.put_digits.Statement.{statement}
-use Rattle.lines.proofs.put_digits.Tie as tie
+use Rattle.decimals.proofs.put_digits.Statement.{statement}
+use Rattle.decimals.proofs.put_digits.Tie as tie
 
 abbrev Inv-loop : tie.InvT-loop
 Inv-loop text₀ at count x end left₀ p₀ text left p = (at + count ≤ length text) × (length text ≡ length text₀) × (end ≡ at + count) × Writing at count x text₀ text left p

@@ -1,10 +1,10 @@
--- `judge::covers` meets its contract: a restriction is covered that is not bound, or included, or not seen.
+-- `joins::covers` meets its contract: a restriction is covered that is not bound, or included, or not seen.
 -- Assumes nothing.
-use Rattle.judge.specs.JoinLaws.{covers-unbound, covers-included, covers-unseen}
+use Rattle.joins.specs.JoinLaws.{covers-unbound, covers-included, covers-unseen}
 use Prim.Native.Nat.{_-_}
 use borrow.Author.Needs.{needs}
-use Rattle.judge.proofs.covers.Statement.{statement}
-use Rattle.judge.proofs.covers.Tie as tie
+use Rattle.joins.proofs.covers.Statement.{statement}
+use Rattle.joins.proofs.covers.Tie as tie
 
 restricted-requires : tie.Need-restricted-requires
 restricted-requires c κs = search needs

@@ -1,9 +1,9 @@
--- `lines::put_decimal` meets its contract.
+-- `decimals::put_decimal` meets its contract.
 -- Assumes nothing.
-use Rattle.lines.specs.DigitTurnsLaws.{decimal-written}
+use Rattle.decimals.specs.DigitTurnsLaws.{decimal-written}
 use borrow.Author.Needs.{needs}
-use Rattle.lines.proofs.put_decimal.Statement.{statement}
-use Rattle.lines.proofs.put_decimal.Tie as tie
+use Rattle.decimals.proofs.put_decimal.Statement.{statement}
+use Rattle.decimals.proofs.put_decimal.Tie as tie
 
 digit-count-requires : tie.Need-digit-count-requires
 digit-count-requires c κs = search needs

@@ -1,12 +1,12 @@
--- `lines::digit_count` meets its contract: the number has at least the digits counted so far.
+-- `decimals::digit_count` meets its contract: the number has at least the digits counted so far.
 -- Assumes nothing.
 use Prim.Native.Nat.{_-_}
 use native.Mathlib.Omega.{arith}
-use Rattle.lines.specs.Decimals.{sureDigits}
-use Rattle.lines.specs.DigitTurnsLaws.{Counting, counting-begins, counting-fits, counting-turn, counting-found, counting-sure, counting-longest}
+use Rattle.decimals.specs.Decimals.{sureDigits}
+use Rattle.decimals.specs.DigitTurnsLaws.{Counting, counting-begins, counting-fits, counting-turn, counting-found, counting-sure, counting-longest}
 use borrow.Author.Needs.{needs}
-use Rattle.lines.proofs.digit_count.Statement.{statement}
-use Rattle.lines.proofs.digit_count.Tie as tie
+use Rattle.decimals.proofs.digit_count.Statement.{statement}
+use Rattle.decimals.proofs.digit_count.Tie as tie
 
 abbrev Inv-loop : tie.InvT-loop
 Inv-loop x n₀ power₀ n power = Counting x n power

@@ -1,9 +1,9 @@
--- `lines::put_byte` meets its contract.
+-- `decimals::put_byte` meets its contract.
 -- Assumes nothing.
-use Rattle.lines.specs.WrittenLaws.{written-byte}
+use Rattle.decimals.specs.WrittenLaws.{written-byte}
 use borrow.Author.Needs.{needs}
-use Rattle.lines.proofs.put_byte.Statement.{statement}
-use Rattle.lines.proofs.put_byte.Tie as tie
+use Rattle.decimals.proofs.put_byte.Statement.{statement}
+use Rattle.decimals.proofs.put_byte.Tie as tie
 
 slice-write-text : tie.Need-slice-write-text
 slice-write-text c = search needs

@@ -8,7 +8,7 @@ use native.Mathlib.Omega.{arith}
 use native.Mathlib.Numerals.{add-one}
 use lib.ListN.{length, getD, take, drop, set, length-append, length-take, length-drop, take-append-drop}
 use lib.Seq.{length-take-le, take-suc, take-length, append-snoc, set-split, set-append-left, take-set-lt, take-suc-set, take-at, drop-at, drop-append-add, drop-drop}
-use Rattle.lines.specs.Written.{Written}
+use Rattle.decimals.specs.Written.{Written}
 
 -- the length stays
 pub written-length : (at most : ℕ) (x t t′ : List ℕ) (k : ℕ) → Written at most x t t′ k → length t′ ≡ length t

@@ -1,11 +1,11 @@
--- `judge::join_seen` meets its contract: the join so far includes each seen row whose set was looked up.
+-- `joins::join_seen` meets its contract: the join so far includes each seen row whose set was looked up.
 -- Assumes nothing.
-use Rattle.judge.specs.JoinLaws.{Gathered, gathered-begins, gathered-turn, gathered-ends}
+use Rattle.joins.specs.JoinLaws.{Gathered, gathered-begins, gathered-turn, gathered-ends}
 use Rattle.combos.specs.Rows.{SeenInOrder}
 use Prim.Native.Nat.{_-_}
 use borrow.Author.Needs.{needs}
-use Rattle.judge.proofs.join_seen.Statement.{statement}
-use Rattle.judge.proofs.join_seen.Tie as tie
+use Rattle.joins.proofs.join_seen.Statement.{statement}
+use Rattle.joins.proofs.join_seen.Tie as tie
 
 abbrev Inv-loop : tie.InvT-loop
 Inv-loop c seen n acc₀ set₀ acc set = SeenInOrder n seen × Gathered n seen c acc set

@@ -1,11 +1,11 @@
--- `judge::joins_to` meets its contract: k includes each seen row that c includes and whose set was looked up.
+-- `joins::joins_to` meets its contract: k includes each seen row that c includes and whose set was looked up.
 -- Assumes nothing.
-use Rattle.judge.specs.JoinLaws.{Covered, covered-begins, covered-turn, covered-stops, covered-ends}
+use Rattle.joins.specs.JoinLaws.{Covered, covered-begins, covered-turn, covered-stops, covered-ends}
 use Rattle.combos.specs.Rows.{SeenInOrder}
 use Prim.Native.Nat.{_-_}
 use borrow.Author.Needs.{needs}
-use Rattle.judge.proofs.joins_to.Statement.{statement}
-use Rattle.judge.proofs.joins_to.Tie as tie
+use Rattle.joins.proofs.joins_to.Statement.{statement}
+use Rattle.joins.proofs.joins_to.Tie as tie
 
 abbrev Inv-loop : tie.InvT-loop
 Inv-loop c k seen n set₀ set = SeenInOrder n seen × Covered n seen c k set

@@ -12,7 +12,7 @@ use borrow.Author.Tests.{lt-ltb, le-ltb, ltb-true, ltb-false}
 use Rattle.document.specs.Classes.{zeroByte}
 use Rattle.document.specs.Printing.{digits, decimal}
 use Rattle.rows.specs.RowsLaws.{split-bool}
-use Rattle.lines.specs.Decimals.{withoutLast, lastDigits, mostDigits, valueDigits, refusalDigits}
+use Rattle.decimals.specs.Decimals.{withoutLast, lastDigits, mostDigits, valueDigits, refusalDigits}
 
 -- The last digits -------------------------------------------------------------------------------------------------------
 

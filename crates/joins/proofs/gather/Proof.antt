@@ -1,10 +1,10 @@
--- `judge::gather` meets its contract: one restriction more, if it is bound, not included yet and seen.
+-- `joins::gather` meets its contract: one restriction more, if it is bound, not included yet and seen.
 -- Assumes nothing.
-use Rattle.judge.specs.JoinLaws.{gather-unbound, gather-covered, gather-unseen, gather-joins}
+use Rattle.joins.specs.JoinLaws.{gather-unbound, gather-covered, gather-unseen, gather-joins}
 use Prim.Native.Nat.{_-_}
 use borrow.Author.Needs.{needs}
-use Rattle.judge.proofs.gather.Statement.{statement}
-use Rattle.judge.proofs.gather.Tie as tie
+use Rattle.joins.proofs.gather.Statement.{statement}
+use Rattle.joins.proofs.gather.Tie as tie
 
 restricted-requires : tie.Need-restricted-requires
 restricted-requires c κs = search needs

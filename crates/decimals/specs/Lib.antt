@@ -1,0 +1,5 @@
+pub mod Written
+pub mod WrittenLaws
+pub mod Decimals
+pub mod DecimalsLaws
+pub mod DigitTurnsLaws
