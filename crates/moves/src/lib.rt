@@ -1,5 +1,5 @@
 // Which kept rows move at an event, and where to (document 01, "One event"): "If the join of all seen bindings that c includes,
-// before this event, is exactly k, then c moves from k's state by the event". Above `judge` and `tables`.
+// before this event, is exactly k, then c moves from k's state by the event". Above `joins` and `tables`.
 // Interior: the event is worked out and written down with it.
 ghost use Prim.Native.Nat.{_<_, _≤_};
 ghost use mathlib.Core.Path.{_≡_};
