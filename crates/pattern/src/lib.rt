@@ -35,8 +35,8 @@ pub struct Parsed {
     pub shape: sets::Shape,
 }
 
-// An event name, `epsilon`, or an alternative in parentheses. The nesting is judged before the alternative is read, so that
-// the depth of the calls stays within what 16 parentheses ask.
+// An event name, `epsilon`, or an alternative in parentheses. The nesting is judged before the alternative is read. What remains
+// is a call for each part side by side or between bars: at most some 510, of `epsilon`, in 4,096 bytes.
 pub fn atom<'a, 'b, 'c>(
     text: &'a [u8],
     at: usize,

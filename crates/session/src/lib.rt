@@ -119,7 +119,7 @@ pub fn step(
     }
 }
 
-// The face --------------------------------------------------------------------------------------------------------------
+// The face, and what its calls share ------------------------------------------------------------------------------------
 
 fn set_bits(x: u8) -> u64
     ensures { λ r. ⌜ r ≡ x ⌝ }
@@ -140,8 +140,8 @@ pub fn work_out(p: Property) -> Known
     }
 }
 
-// A refusal: "the session counts as given", and no report.
-fn refused(refusal: u8, n: usize, m: usize) -> Answered
+// An answer without reports: of a refusal, with "the session counts as given"; of a start that is taken.
+fn counts_alone(refusal: u8, n: usize, m: usize) -> Answered
     ensures { λ r. ⌜ r ≡ record { refusal = refusal; seen = n; kept = m; reported = 0 } ⌝ }
 {
     Answered {
@@ -166,18 +166,18 @@ pub fn event(
     ensures { λ r. ⌜ Leaves (event (meaning p) (sessionOf n m (now (seen .entry)) (now (kept .entry))) (now (reports .entry)) e values) (sessionOf n m (now (seen .entry)) (now (kept .entry))) (now (reports .entry)) r (now (seen .exit)) (now (kept .exit)) (now (reports .exit)) ⌝ }
 {
     if !property::in_range(p) {
-        return refused(refusals::BAD_PROPERTY, n, m);
+        return counts_alone(refusals::BAD_PROPERTY, n, m);
     }
     let k = work_out(p);
     if !judge::sound(k.parameters, k.states, k.hopeful, seen, n, kept, m) {
-        return refused(refusals::BAD_SESSION, n, m);
+        return counts_alone(refusals::BAD_SESSION, n, m);
     }
     if p.events <= e {
-        return refused(refusals::NO_SUCH_EVENT, n, m);
+        return counts_alone(refusals::NO_SUCH_EVENT, n, m);
     }
     let sets = p.sets;
     if !combos::binds_exactly(set_bits(sets[e]), values) {
-        return refused(refusals::WRONG_VALUES, n, m);
+        return counts_alone(refusals::WRONG_VALUES, n, m);
     }
     let next = p.next;
     let verdicts = p.verdicts;
@@ -190,16 +190,16 @@ pub fn start(p: Property, seen: &mut [u32], kept: &mut [u32]) -> Answered
     ensures { λ r. ⌜ StartLeaves (start (meaning p) (now (seen .entry)) (now (kept .entry))) (now (seen .entry)) (now (kept .entry)) r (now (seen .exit)) (now (kept .exit)) ⌝ }
 {
     if !property::in_range(p) {
-        return refused(refusals::BAD_PROPERTY, 0, 0);
+        return counts_alone(refusals::BAD_PROPERTY, 0, 0);
     }
     let first = moves::one(bits::has(property::hopeful(p), 0));
     let room = judge::kept_room(kept);
     if room < first {
-        return refused(refusals::NO_ROOM_FOR_KEPT, 0, 0);
+        return counts_alone(refusals::NO_ROOM_FOR_KEPT, 0, 0);
     }
     combos::clear(seen, 0, judge::seen_room(seen) * SEEN_STRIDE);
     combos::clear(kept, 0, room * KEPT_STRIDE);
-    refused(refusals::TAKEN, 0, first)
+    counts_alone(refusals::TAKEN, 0, first)
 }
 
 // The answer where the combination's join is not kept, and where the call is refused.

@@ -205,6 +205,9 @@ fn limits() -> Vec<Request> {
         format!("ere:{}@match", vec!["a"; 32].join("|")),
         format!("ere:{}@match", "(a)".repeat(31)),
         format!("ere:{}@match", "epsilon ".repeat(40)),
+        // as many parts side by side, and between bars, as 4,096 bytes hold: a reader that calls itself for each is deepest here
+        format!("ere:{}@match", "epsilon ".repeat(510)),
+        format!("ere:{}@match", ["epsilon"; 510].join("|")),
         // nesting
         format!("ere:{}@match", nested(16, "a")),
         format!("ere:{}@match", nested(17, "a")),

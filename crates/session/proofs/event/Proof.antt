@@ -9,8 +9,8 @@ use Rattle.session.proofs.event.Tie as tie
 in-range-requires : tie.Need-in-range-requires
 in-range-requires c κs = search needs
 
-refused-requires : tie.Need-refused-requires
-refused-requires c κs = search needs
+counts-alone-requires : tie.Need-counts-alone-requires
+counts-alone-requires c κs = search needs
 
 returns : tie.Need-returns
 returns c = search (needs, event-property)
@@ -21,8 +21,8 @@ work-out-requires c κs = taken-property _ _ (c .before .in-range .ensures) (c .
 sound-requires : tie.Need-sound-requires
 sound-requires c κs = known-states _ _ (c .before .before .before .before .in-range .ensures) (c .before .before .before .if1 .left) _ (c .before .before .work-out .ensures)
 
-refused-requires-2 : tie.Need-refused-requires-2
-refused-requires-2 c κs = search needs
+counts-alone-requires-2 : tie.Need-counts-alone-requires-2
+counts-alone-requires-2 c κs = search needs
 
 same-length : tie.Need-same-length
 same-length c = search needs
@@ -33,8 +33,8 @@ same-length-2 c = search needs
 returns-2 : tie.Need-returns-2
 returns-2 c = search (needs, event-session)
 
-refused-requires-3 : tie.Need-refused-requires-3
-refused-requires-3 c κs = search needs
+counts-alone-requires-3 : tie.Need-counts-alone-requires-3
+counts-alone-requires-3 c κs = search needs
 
 same-length-3 : tie.Need-same-length-3
 same-length-3 c = search needs
@@ -54,8 +54,8 @@ set-bits-requires c κs = search needs
 binds-exactly-requires : tie.Need-binds-exactly-requires
 binds-exactly-requires c κs = search needs
 
-refused-requires-4 : tie.Need-refused-requires-4
-refused-requires-4 c κs = search needs
+counts-alone-requires-4 : tie.Need-counts-alone-requires-4
+counts-alone-requires-4 c κs = search needs
 
 same-length-5 : tie.Need-same-length-5
 same-length-5 c = search needs
@@ -86,22 +86,22 @@ event-spec =
     tie.close
     (tie.spec
     in-range-requires
-    refused-requires
+    counts-alone-requires
     returns
     work-out-requires
     sound-requires
-    refused-requires-2
+    counts-alone-requires-2
     same-length
     same-length-2
     returns-2
-    refused-requires-3
+    counts-alone-requires-3
     same-length-3
     same-length-4
     returns-3
     array-read-set-bits
     set-bits-requires
     binds-exactly-requires
-    refused-requires-4
+    counts-alone-requires-4
     same-length-5
     same-length-6
     returns-4

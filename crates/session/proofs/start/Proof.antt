@@ -10,8 +10,8 @@ use Rattle.session.proofs.start.Tie as tie
 in-range-requires : tie.Need-in-range-requires
 in-range-requires c κs = search needs
 
-refused-requires : tie.Need-refused-requires
-refused-requires c κs = search needs
+counts-alone-requires : tie.Need-counts-alone-requires
+counts-alone-requires c κs = search needs
 
 returns : tie.Need-returns
 returns c = search (needs, start-property)
@@ -28,8 +28,8 @@ one-requires c κs = search needs
 kept-room-requires : tie.Need-kept-room-requires
 kept-room-requires c κs = search needs
 
-refused-requires-2 : tie.Need-refused-requires-2
-refused-requires-2 c κs = search needs
+counts-alone-requires-2 : tie.Need-counts-alone-requires-2
+counts-alone-requires-2 c κs = search needs
 
 same-length : tie.Need-same-length
 same-length c = search needs
@@ -52,8 +52,8 @@ mul-clear-2 c = search needs
 clear-requires-2 : tie.Need-clear-requires-2
 clear-requires-2 c κs = search needs
 
-refused-requires-3 : tie.Need-refused-requires-3
-refused-requires-3 c κs = search needs
+counts-alone-requires-3 : tie.Need-counts-alone-requires-3
+counts-alone-requires-3 c κs = search needs
 
 same-length-2 : tie.Need-same-length-2
 same-length-2 c = search needs
@@ -69,13 +69,13 @@ start-spec =
     tie.close
     (tie.spec
     in-range-requires
-    refused-requires
+    counts-alone-requires
     returns
     hopeful-requires
     has-requires
     one-requires
     kept-room-requires
-    refused-requires-2
+    counts-alone-requires-2
     same-length
     returns-2
     seen-room-requires
@@ -83,7 +83,7 @@ start-spec =
     clear-requires
     mul-clear-2
     clear-requires-2
-    refused-requires-3
+    counts-alone-requires-3
     same-length-2
     same-length-3
     returns-3)
