@@ -13,7 +13,7 @@ use remembered::Step;
 use remembered::memory;
 use remembered::memory::Memory;
 use remembered::tables;
-use session::Answered;
+use steps::Answered;
 
 // Room for the lines of a row that are printed: those of 3,005 reports, more than any chosen batch has.
 const LINES_BYTES: usize = 3005 * lines::MOST_LINE;

@@ -8,8 +8,8 @@ use combos::Combination;
 use remembered::Step;
 use remembered::memory::Memory;
 use remembered::tables;
-use session::Answered;
 use session::Looked;
+use steps::Answered;
 
 // A combination that was read, and the place after it.
 struct Values {

@@ -27,8 +27,8 @@ use Rattle.judge.specs.Sound.{sessionOf}
 use Rattle.runs.specs.Judged.{agrees-of}
 use Rattle.runs.specs.Turns.{run-ended, run-refused, run-taken}
 use Rattle.runs.specs.Counts.{call-refused, call-past, call-runs}
-use Rattle.session.specs.declared.Answered.{Answered as Stepped}
-use Rattle.session.specs.Calls.{answered, Leaves}
+use Rattle.steps.specs.declared.Answered.{Answered as Stepped}
+use Rattle.steps.specs.Steps.{answered, Leaves}
 use Rattle.log.specs.declared.Judged.{Judged}
 use Rattle.log.specs.declared.Ran.{Ran as Answered}
 use Rattle.log.specs.Judging.{Good, JudgedAs, Judges}

@@ -14,7 +14,7 @@ use Rattle.document.specs.Session.{Session, sound}
 use Rattle.document.specs.Log.{agrees, judged}
 use Rattle.readings.specs.declared.Reading.{Reading}
 use Rattle.readings.specs.Readings.{Stands}
-use Rattle.session.specs.Calls.{KnownOf}
+use Rattle.known.specs.Knowing.{KnownOf}
 use Rattle.log.specs.declared.Judged.{Judged}
 
 -- the first n numbers are the same

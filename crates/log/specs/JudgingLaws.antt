@@ -23,8 +23,8 @@ use Rattle.readings.specs.Readings.{padded, Stands, Reads}
 use Rattle.readings.specs.ReadingsLaws.{reads-taken, reads-refused}
 use Rattle.judge.specs.Sound.{soundBy}
 use Rattle.moves.specs.declared.Known.{Known}
-use Rattle.session.specs.Calls.{KnownOf}
-use Rattle.session.specs.FaceLaws.{known-sound, taken-property}
+use Rattle.known.specs.Knowing.{KnownOf}
+use Rattle.known.specs.KnowingLaws.{known-sound, taken-property}
 use Rattle.log.specs.declared.Judged.{Judged}
 use Rattle.log.specs.Judging.{sameSets, agreesBy, Good, JudgedAs, Judges}
 

@@ -16,7 +16,7 @@ use Rattle.readings.specs.Readings.{Inside}
 use Rattle.entries.specs.Entries.{declaredAt}
 use Rattle.judge.specs.Sound.{sessionOf}
 use Rattle.moves.specs.declared.Known.{Known}
-use Rattle.session.specs.Calls.{KnownOf}
+use Rattle.known.specs.Knowing.{KnownOf}
 use Rattle.log.specs.Stepping.{rowStepBy}
 use Rattle.log.specs.declared.Ran.{Ran as Answered}
 

@@ -31,11 +31,11 @@ use Rattle.runs.specs.RowEvents.{row-says}
 use Rattle.runs.specs.Turns.{run-spent, run-ended, run-refused, run-taken}
 use Rattle.runs.specs.TwoCalls.{row-reports}
 use Rattle.runs.specs.SoundRuns.{row-sound}
-use Rattle.session.specs.declared.Answered.{Answered as Stepped}
+use Rattle.steps.specs.declared.Answered.{Answered as Stepped}
 use Rattle.moves.specs.Steps.{outcomeBy}
 use Rattle.writing.specs.Writing.{writtenBy}
-use Rattle.session.specs.Calls.{withinRoomsBy, stepBy, answered, Leaves}
-use Rattle.session.specs.SteadyLaws.{kept-range, sound-steady, step-same}
+use Rattle.steps.specs.Steps.{withinRoomsBy, stepBy, answered, Leaves}
+use Rattle.steps.specs.SteadyLaws.{kept-range, sound-steady, step-same}
 use Rattle.log.specs.declared.Ran.{Ran as Answered}
 use Rattle.log.specs.Stepping.{rowStepBy, RowGoes}
 use Rattle.log.specs.Running.{ranOf, RunLeaves, readAs, Sure, took, turn, turnBy, Onward, Going}

@@ -11,7 +11,7 @@ use Rattle.document.specs.Session.{Session, Happened}
 use Rattle.document.specs.Log.{rowEvent}
 use Rattle.readings.specs.Readings.{Inside}
 use Rattle.moves.specs.Ready.{Steady}
-use Rattle.session.specs.Calls.{stepBy}
+use Rattle.steps.specs.Steps.{stepBy}
 
 unfoldable pub rowStepBy : List ℕ → List ℕ → ℕ → ℕ → ℕ → Declared → Session → List ℕ → List ℕ → Answer Happened
 rowStepBy next verdicts hopes asks from d s reports row =

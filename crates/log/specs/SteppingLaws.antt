@@ -29,9 +29,10 @@ use Rattle.moves.specs.Ready.{Steady}
 use Rattle.moves.specs.declared.Known.{Known}
 use Rattle.runs.specs.Judged.{agrees-of}
 use Rattle.runs.specs.RowEvents.{row-says}
-use Rattle.session.specs.declared.Answered.{Answered}
-use Rattle.session.specs.Calls.{stepBy, answered, Leaves, KnownOf}
-use Rattle.session.specs.SteadyLaws.{kept-range, step-same}
+use Rattle.steps.specs.declared.Answered.{Answered}
+use Rattle.steps.specs.Steps.{stepBy, answered, Leaves}
+use Rattle.known.specs.Knowing.{KnownOf}
+use Rattle.steps.specs.SteadyLaws.{kept-range, step-same}
 use Rattle.log.specs.JudgingLaws.{padded-at}
 use Rattle.log.specs.Stepping.{rowStepBy, RowGoes}
 

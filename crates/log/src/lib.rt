@@ -12,7 +12,7 @@ ghost use Rattle.document.specs.Session.{sound};
 ghost use Rattle.document.specs.Log.{row, run, runFrom};
 ghost use Rattle.property.specs.Meaning.{meaning};
 ghost use Rattle.judge.specs.Sound.{sessionOf};
-ghost use Rattle.session.specs.Calls.{Leaves};
+ghost use Rattle.steps.specs.Steps.{Leaves};
 ghost use Rattle.entries.specs.Entries.{declaredAt};
 ghost use Rattle.log.specs.Judging.{sameSets, agreesBy, Judges};
 ghost use Rattle.log.specs.Stepping.{rowStepBy, RowGoes};
@@ -21,7 +21,7 @@ use combos::KEPT_STRIDE;
 use moves::Known;
 use property::Property;
 use readings::Reading;
-use session::Answered;
+use steps::Answered;
 
 // What is judged once per call: the number of refusal, or 0, and then what the declarations say and what is known of the
 // table.
@@ -112,7 +112,7 @@ pub fn judge_call<'a, 'b>(
     if !table_agrees(reading, p) {
         return refused_call(refusals::TABLE_DIFFERS, reading);
     }
-    let known = session::work_out(p);
+    let known = known::work_out(p);
     if !judge::sound(
         known.parameters,
         known.states,
@@ -164,7 +164,7 @@ pub fn step_row<'a, 'b, 'c>(
         };
     }
     let values = entry.values;
-    session::step(
+    steps::step(
         next,
         verdicts,
         known,

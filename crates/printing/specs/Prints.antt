@@ -17,7 +17,7 @@ use Rattle.judge.specs.Sound.{sessionOf}
 use Rattle.decimals.specs.Written.{Written}
 use Rattle.lines.specs.Lines.{refusedNumberLine, mostLine}
 use Rattle.runs.specs.PrintPart.{PrintedTo, linesFirst}
-use Rattle.session.specs.declared.Answered.{Answered}
+use Rattle.steps.specs.declared.Answered.{Answered}
 use Rattle.printing.specs.declared.Printed.{Printed}
 use Rattle.printing.specs.Printing.{mostLines, printRows}
 

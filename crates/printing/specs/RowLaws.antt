@@ -29,8 +29,8 @@ use Rattle.lines.specs.LinesLaws.{refused-line-number}
 use Rattle.moves.specs.Steps.{stepOf, stateIn, outcomeBy}
 use Rattle.runs.specs.Answers.{past-test, past-call, taken-one}
 use Rattle.runs.specs.ReportRows.{reports-after-few}
-use Rattle.session.specs.declared.Answered.{Answered}
-use Rattle.session.specs.Calls.{withinRoomsBy, stepBy, answered, Leaves}
+use Rattle.steps.specs.declared.Answered.{Answered}
+use Rattle.steps.specs.Steps.{withinRoomsBy, stepBy, answered, Leaves}
 use Rattle.writing.specs.Writing.{writtenBy}
 use Rattle.log.specs.Stepping.{rowStepBy}
 use Rattle.log.specs.RunningLaws.{row-is, row-room}

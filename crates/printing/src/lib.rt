@@ -22,7 +22,7 @@ ghost use Rattle.printing.specs.Prints.{answerText, PrintLeaves, TextFit
 use moves::Known;
 use property::Property;
 use readings::Reading;
-use session::Answered;
+use steps::Answered;
 
 // The number of a row that none can follow in 64 bits.
 const LAST_NUMBER: usize = 18446744073709551615;

@@ -7,41 +7,31 @@ use mathlib.Core.List.{List}
 use native.Mathlib.Omega.{arith}
 use lib.ListN.{getD}
 use borrow.Author.Tests.{le-leb, lt-leb, not-true, not-false}
-use Rattle.document.specs.Limits.{mostEvents, mostStates}
+use Rattle.document.specs.Limits.{mostEvents}
 use Rattle.document.specs.Positions.{holds}
 use Rattle.document.specs.Refusals.{Answer}
 use Rattle.document.specs.Combinations.{bindsExactly}
-use Rattle.document.specs.Property.{Property, inRange, setOf, hopeful}
+use Rattle.document.specs.Property.{Property, inRange, setOf}
 use Rattle.document.specs.Session.{Session, Happened, keptOf, sound, event, leaves, stepFrom}
 use Rattle.words.specs.Range.{in-range-range}
-use Rattle.judge.specs.Sound.{soundBy, soundBy-sound, sessionOf}
+use Rattle.judge.specs.Sound.{soundBy, sessionOf}
 use Rattle.moves.specs.Ready.{Steady}
 use Rattle.moves.specs.declared.Known.{Known}
-use Rattle.session.specs.Calls.{stepBy, answered, Leaves, KnownOf}
-use Rattle.session.specs.SteadyLaws.{kept-range, sound-steady, step-same}
-use Rattle.session.specs.declared.Answered.{Answered}
-
--- the check over what is known is the document's
-pub known-sound : (p : Property) (k : Known) (s : Session) → KnownOf p k → soundBy (k .parameters) (k .states) (holds (k .hopeful)) s ≡ sound p s
-known-sound p k s u =
-    let h : holds (k .hopeful) ≡ hopeful p = λ i x. u .hopes .says x i in
-    rw (u .parameters, u .states, h) (soundBy-sound p s)
+use Rattle.known.specs.Knowing.{KnownOf}
+use Rattle.known.specs.KnowingLaws.{known-sound, taken-property}
+use Rattle.steps.specs.Steps.{stepBy, answered, Leaves}
+use Rattle.steps.specs.SteadyLaws.{kept-range, sound-steady, step-same}
+use Rattle.steps.specs.declared.Answered.{Answered}
 
 -- what the calls beneath need
 module _ (p : Property) (f : Bool) (qf : f ≡ inRange p) (zf : not f ≡ false) where
-  pub taken-property : inRange p ≡ true
-  taken-property = sym qf ∙ not-false f zf
-
-  pub known-states : (k : Known) → KnownOf p k → k .states ≤ mostStates
-  known-states k u = rw (u .states) (in-range-range p taken-property .fewStates)
-
   pub event-index : (e : ℕ) → e < p .events → e < mostEvents
-  event-index e l = let x = in-range-range p taken-property .fewEvents in omega arith
+  event-index e l = let x = in-range-range p (taken-property p f qf zf) .fewEvents in omega arith
 
   pub event-steady : (n m : ℕ) (seen kept : List ℕ) (k : Known) → KnownOf p k → (g : Bool) → g ≡ soundBy (k .parameters) (k .states) (holds (k .hopeful)) (sessionOf n m seen kept)
       → not g ≡ false → (e : ℕ) → e < p .events → Steady (p .next) (k .states) e n m seen kept
   event-steady n m seen kept k u g qg zg e l =
-      rw (u .states) (sound-steady p taken-property n m seen kept (sym (known-sound p k (sessionOf n m seen kept) u) ∙ sym qg ∙ not-false g zg) e l)
+      rw (u .states) (sound-steady p (taken-property p f qf zf) n m seen kept (sym (known-sound p k (sessionOf n m seen kept) u) ∙ sym qg ∙ not-false g zg) e l)
 
 -- One event ------------------------------------------------------------------------------------------------------------
 

@@ -35,7 +35,7 @@ use Rattle.moves.specs.Steps.{isNew}
 use Rattle.moves.specs.MovesLaws.{moves-of, in-moved}
 use Rattle.moves.specs.ReadyLaws.{see-new, see-old}
 use Rattle.keeping.specs.KeptAfterLaws.{keptAfter-ascends}
-use Rattle.session.specs.SteadyLaws.{every-of, kept-width, rightly, rightly-state}
+use Rattle.steps.specs.SteadyLaws.{every-of, kept-width, rightly, rightly-state}
 
 -- what is seen after b: b, unless it is empty, and what was seen
 pub in-see : (b : List ℕ) (seen : List (List ℕ)) (x : List ℕ) → In x (see width b seen) → In x seen ⊎ ((x ≡ b) × (b ≡ emptyOf width → ⊥))

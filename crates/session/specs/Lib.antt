@@ -1,6 +1,4 @@
 pub mod Calls
-pub mod StepLaws
-pub mod SteadyLaws
 pub mod FaceLaws
 pub mod LookupLaws
 pub mod GoesOnLaws

@@ -35,10 +35,11 @@ use Rattle.tables.specs.WholeLaws.{kept-table, seen-table}
 use Rattle.moves.specs.Steps.{one}
 use Rattle.moves.specs.Ready.{Steady}
 use Rattle.moves.specs.declared.Known.{Known}
-use Rattle.session.specs.Calls.{KnownOf, started, StartLeaves, lookedUp, Findable, foundBy}
-use Rattle.session.specs.SteadyLaws.{sound-steady}
-use Rattle.session.specs.FaceLaws.{known-sound, taken-property}
-use Rattle.session.specs.declared.Answered.{Answered}
+use Rattle.known.specs.Knowing.{KnownOf}
+use Rattle.session.specs.Calls.{started, StartLeaves, lookedUp, Findable, foundBy}
+use Rattle.steps.specs.SteadyLaws.{sound-steady}
+use Rattle.known.specs.KnowingLaws.{known-sound, taken-property}
+use Rattle.steps.specs.declared.Answered.{Answered}
 use Rattle.session.specs.declared.Looked.{Looked}
 
 -- Start ----------------------------------------------------------------------------------------------------------------

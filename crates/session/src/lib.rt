@@ -1,38 +1,28 @@
-// A session over lent tables (document 01, "One event"): start, one event, lookup. Above `judge`, `property`, `foreseen`,
-// `writing` and `advance`.
-// The face: `start`, `event`, `lookup`, which take every input, judge it in the order of the refusals, and on a refusal leave
-// every lent number as it was. The interior: `work_out` and `step`, for a run that has judged its inputs.
+// A session over lent tables (document 01, "One event"): start, one event, lookup. All of it is the face: the calls take every
+// input, judge it in the order of the refusals, and on a refusal leave every lent number as it was. Above `judge`, `known` and
+// `steps`.
 //
 //     start(p, &mut seen, &mut kept) answers the counts of a fresh session, 0 seen rows and 0 or 1 kept rows;
 //     event(p, &mut seen, n, &mut kept, m, &mut reports, e, values) answers the counts after the event, and its reports.
 ghost use mathlib.Core.Path.{_≡_};
-ghost use mathlib.Core.Bool.{true, false};
+ghost use mathlib.Core.Bool.{false};
 ghost use Rattle.document.specs.Tables.{keptRows};
-ghost use Rattle.document.specs.Property.{inRange};
 ghost use Rattle.document.specs.Session.{start, event, lookup};
 ghost use Rattle.property.specs.Meaning.{meaning};
 ghost use Rattle.judge.specs.Sound.{sessionOf};
-ghost use Rattle.moves.specs.Ready.{Steady};
-ghost use Rattle.session.specs.Calls.{stepBy, Leaves, KnownOf, StartLeaves, lookedUp, Findable, foundBy};
+ghost use Rattle.steps.specs.Steps.{Leaves};
+ghost use Rattle.session.specs.Calls.{StartLeaves, lookedUp, Findable, foundBy};
 use combos::Combination;
 use combos::KEPT_STRIDE;
 use combos::SEEN_STRIDE;
 use combos::WIDTH;
-use moves::Known;
 use property::Property;
+use steps::Answered;
 
 // Numbers that the largest rooms of the seen and the kept table take: those past them are never read or written.
 pub const SEEN_NUMBERS: usize = judge::MOST_SEEN * SEEN_STRIDE;
 
 pub const KEPT_NUMBERS: usize = judge::MOST_KEPT * KEPT_STRIDE;
-
-// What a call answers: the number of refusal, or 0; the rows of both tables that count now; and the reports made.
-pub struct Answered {
-    pub refusal: u8,
-    pub seen: usize,
-    pub kept: usize,
-    pub reported: usize,
-}
 
 // What lookup answers: the number of refusal, or 0; whether the combination's join is kept; and its state and verdict.
 pub struct Looked {
@@ -42,102 +32,10 @@ pub struct Looked {
     pub verdict: u8,
 }
 
-// Any event: worked out, then written down if there is room.
-fn foresee_then_write(
-    next: &[u8; 1024],
-    verdicts: &[u8; 64],
-    known: Known,
-    seen: &mut [u32],
-    n: usize,
-    kept: &mut [u32],
-    m: usize,
-    reports: &mut [u32],
-    from: usize,
-    e: usize,
-    b: Combination,
-) -> Answered
-    requires { ⌜ Steady (now next) (known .states) e n m (now seen) (now kept) ⌝ }
-    ensures { λ r. ⌜ Leaves (stepBy (now (next .entry)) (now (verdicts .entry)) (known .hopeful) (known .asked) from (sessionOf n m (now (seen .entry)) (now (kept .entry))) (now (reports .entry)) e b) (sessionOf n m (now (seen .entry)) (now (kept .entry))) (now (reports .entry)) r (now (seen .exit)) (now (kept .exit)) (now (reports .exit)) ⌝ }
-{
-    let o = foreseen::foresee(next, known, seen, n, kept, m, reports, from, e, b);
-    if o.refusal != refusals::TAKEN {
-        return Answered {
-            refusal: o.refusal,
-            seen: n,
-            kept: m,
-            reported: 0,
-        };
-    }
-    writing::write_down(
-        next,
-        verdicts,
-        known,
-        seen,
-        n,
-        kept,
-        m,
-        reports,
-        from,
-        e,
-        b,
-        o,
-    );
-    Answered {
-        refusal: refusals::TAKEN,
-        seen: o.seen,
-        kept: o.kept,
-        reported: o.reported,
-    }
-}
-
-// One event in a session that is sound. Where it creates nothing and cannot be refused, one pass over the kept rows does it.
-pub fn step(
-    next: &[u8; 1024],
-    verdicts: &[u8; 64],
-    known: Known,
-    seen: &mut [u32],
-    n: usize,
-    kept: &mut [u32],
-    m: usize,
-    reports: &mut [u32],
-    from: usize,
-    e: usize,
-    b: Combination,
-) -> Answered
-    requires { ⌜ Steady (now next) (known .states) e n m (now seen) (now kept) ⌝ }
-    ensures { λ r. ⌜ Leaves (stepBy (now (next .entry)) (now (verdicts .entry)) (known .hopeful) (known .asked) from (sessionOf n m (now (seen .entry)) (now (kept .entry))) (now (reports .entry)) e b) (sessionOf n m (now (seen .entry)) (now (kept .entry))) (now (reports .entry)) r (now (seen .exit)) (now (kept .exit)) (now (reports .exit)) ⌝ }
-{
-    if !advance::applies(seen, n, m, reports, from, b) {
-        return foresee_then_write(next, verdicts, known, seen, n, kept, m, reports, from, e, b);
-    }
-    let a = advance::advance(next, verdicts, known, kept, m, reports, from, e, b);
-    Answered {
-        refusal: refusals::TAKEN,
-        seen: n,
-        kept: a.kept,
-        reported: a.reported,
-    }
-}
-
-// The face, and what its calls share ------------------------------------------------------------------------------------
-
 fn set_bits(x: u8) -> u64
     ensures { λ r. ⌜ r ≡ x ⌝ }
 {
     x as u64
-}
-
-// What is worked out once of a property that is taken.
-pub fn work_out(p: Property) -> Known
-    requires { ⌜ inRange (meaning p) ≡ true ⌝ }
-    ensures { λ r. ⌜ KnownOf (meaning p) r ⌝ }
-{
-    Known {
-        parameters: p.parameters,
-        states: p.states,
-        hopeful: property::hopeful(p),
-        asked: property::asked_states(p),
-    }
 }
 
 // An answer without reports: of a refusal, with "the session counts as given"; of a start that is taken.
@@ -168,7 +66,7 @@ pub fn event(
     if !property::in_range(p) {
         return counts_alone(refusals::BAD_PROPERTY, n, m);
     }
-    let k = work_out(p);
+    let k = known::work_out(p);
     if !judge::sound(k.parameters, k.states, k.hopeful, seen, n, kept, m) {
         return counts_alone(refusals::BAD_SESSION, n, m);
     }
@@ -181,7 +79,7 @@ pub fn event(
     }
     let next = p.next;
     let verdicts = p.verdicts;
-    step(&next, &verdicts, k, seen, n, kept, m, reports, 0, e, values)
+    steps::step(&next, &verdicts, k, seen, n, kept, m, reports, 0, e, values)
 }
 
 // A fresh session: "Start clears both rooms and, if state 0 is hopeful, keeps the empty combination in it", whose row is
@@ -244,7 +142,7 @@ pub fn lookup(p: Property, seen: &[u32], n: usize, kept: &[u32], m: usize, c: Co
     if !property::in_range(p) {
         return nothing_held(refusals::BAD_PROPERTY);
     }
-    let k = work_out(p);
+    let k = known::work_out(p);
     if !judge::sound(k.parameters, k.states, k.hopeful, seen, n, kept, m) {
         return nothing_held(refusals::BAD_SESSION);
     }

@@ -24,7 +24,7 @@ use Rattle.translate.specs.declared.Translated.{Translated}
 use Rattle.translate.proofs.translate.Reads as translate
 use Rattle.property.specs.declared.Property.{Property}
 use Rattle.property.proofs.in_range.Reads as in-range
-use Rattle.session.specs.declared.Answered.{Answered}
+use Rattle.steps.specs.declared.Answered.{Answered}
 use Rattle.session.specs.declared.Looked.{Looked}
 use Rattle.session.proofs.start.Reads as start
 use Rattle.session.proofs.event.Reads as event

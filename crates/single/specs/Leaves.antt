@@ -9,8 +9,9 @@ use Rattle.document.specs.Refusals.{Answer}
 use Rattle.document.specs.Session.{Session, Happened}
 use Rattle.document.specs.Log as document
 use Rattle.rows.specs.Places.{PartAt}
-use Rattle.session.specs.declared.Answered.{Answered}
-use Rattle.session.specs.Calls.{StartLeaves, Leaves}
+use Rattle.steps.specs.declared.Answered.{Answered}
+use Rattle.session.specs.Calls.{StartLeaves}
+use Rattle.steps.specs.Steps.{Leaves}
 use Rattle.log.specs.declared.Ran.{Ran}
 use Rattle.log.specs.Running.{RunLeaves}
 use Rattle.runs.specs.PrintPart.{PrintedTo}

@@ -1,7 +1,7 @@
 -- `log::judge_call` meets its contract: each refusal in the document's order, then all that is known.
 -- Assumes nothing.
 use Rattle.log.specs.JudgingLaws.{few-events, judge-declarations, judge-property, judge-table, judge-session, judge-good}
-use Rattle.session.specs.FaceLaws.{taken-property, known-states}
+use Rattle.known.specs.KnowingLaws.{taken-property, known-states}
 use borrow.Author.Needs.{needs}
 use Rattle.log.proofs.judge_call.Statement.{statement}
 use Rattle.log.proofs.judge_call.Tie as tie

@@ -1,6 +1,6 @@
 -- `session::lookup` meets its contract: judged in the order of the refusals, then looked up.
 -- Assumes nothing.
-use Rattle.session.specs.FaceLaws.{taken-property, known-states}
+use Rattle.known.specs.KnowingLaws.{taken-property, known-states}
 use Rattle.session.specs.LookupLaws.{lookup-property, lookup-session, lookup-past, lookup-found, lookup-seen, lookup-kept}
 use Prim.Native.Nat.{_-_}
 use borrow.Author.Needs.{needs}

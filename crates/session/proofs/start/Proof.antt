@@ -1,6 +1,6 @@
 -- `session::start` meets its contract: both rooms are cleared, and the first kept row is zeros.
 -- Assumes nothing.
-use Rattle.session.specs.FaceLaws.{taken-property}
+use Rattle.known.specs.KnowingLaws.{taken-property}
 use Rattle.session.specs.LookupLaws.{start-property, start-room, start-taken}
 use Prim.Native.Nat.{_-_}
 use borrow.Author.Needs.{needs}

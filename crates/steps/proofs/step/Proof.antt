@@ -1,10 +1,10 @@
--- `session::step` meets its contract: in one pass where the event creates nothing and cannot be refused.
+-- `steps::step` meets its contract: in one pass where the event creates nothing and cannot be refused.
 -- Assumes nothing.
 use Rattle.advance.specs.AdvanceLaws.{advance-able}
-use Rattle.session.specs.StepLaws.{step-advanced}
+use Rattle.steps.specs.StepLaws.{step-advanced}
 use borrow.Author.Needs.{needs}
-use Rattle.session.proofs.step.Statement.{statement}
-use Rattle.session.proofs.step.Tie as tie
+use Rattle.steps.proofs.step.Statement.{statement}
+use Rattle.steps.proofs.step.Tie as tie
 
 applies-requires : tie.Need-applies-requires
 applies-requires c κs = search needs

@@ -30,7 +30,7 @@ use Rattle.tables.specs.TablesLaws.{kept-rows}
 use Rattle.moves.specs.Steps.{stepOf, stateIn, outcomeBy}
 use Rattle.moves.specs.Ready.{Steady}
 use Rattle.writing.specs.Writing.{reportNumbersBy, writtenBy}
-use Rattle.session.specs.Calls.{withinRoomsBy, stepBy}
+use Rattle.steps.specs.Steps.{withinRoomsBy, stepBy}
 
 pub every-of : {A : Type 0} (p : A → Bool) (l : List A) → every p l ≡ true → (x : A) → In x l → p x ≡ true
 unfolding every

@@ -23,7 +23,7 @@ use Rattle.writing.specs.Writing.{writtenBy, Tellable, WrittenDown}
 use Rattle.advance.specs.Advancing.{Advances}
 use Rattle.advance.specs.AdvanceLaws.{advanced-down, advanced-foreseen}
 use Rattle.advance.specs.declared.Advanced.{Advanced}
-use Rattle.session.specs.Calls.{withinRoomsBy, stepBy, answered, Leaves}
+use Rattle.steps.specs.Steps.{withinRoomsBy, stepBy, answered, Leaves}
 
 abbrev rooms : Bool → Bool → Bool → Happened → Answer Happened
 rooms x y z h = refuseIf x noRoomForSeen (refuseIf y noRoomForKept (refuseIf z noRoomForReports (taken h)))

@@ -1,11 +1,11 @@
--- `session::foresee_then_write` meets its contract: worked out, then refused with nothing altered or written down.
+-- `steps::foresee_then_write` meets its contract: worked out, then refused with nothing altered or written down.
 -- Assumes nothing.
-use Rattle.session.specs.StepLaws.{step-refused, step-tellable, step-taken}
+use Rattle.steps.specs.StepLaws.{step-refused, step-tellable, step-taken}
 use mathlib.Core.List.{[]}
 use Prim.Native.Nat.{_-_}
 use borrow.Author.Needs.{needs}
-use Rattle.session.proofs.foresee_then_write.Statement.{statement}
-use Rattle.session.proofs.foresee_then_write.Tie as tie
+use Rattle.steps.proofs.foresee_then_write.Statement.{statement}
+use Rattle.steps.proofs.foresee_then_write.Tie as tie
 
 foresee-requires : tie.Need-foresee-requires
 foresee-requires c κs = search needs
