@@ -29,10 +29,10 @@ use Rattle.runs.specs.Turns.{run-ended, run-refused, run-taken}
 use Rattle.runs.specs.Counts.{call-refused, call-past, call-runs}
 use Rattle.steps.specs.declared.Answered.{Answered as Stepped}
 use Rattle.steps.specs.Steps.{answered, Leaves}
-use Rattle.log.specs.declared.Judged.{Judged}
+use Rattle.judging.specs.declared.Judged.{Judged}
 use Rattle.log.specs.declared.Ran.{Ran as Answered}
-use Rattle.log.specs.Judging.{Good, JudgedAs, Judges}
-use Rattle.log.specs.JudgingLaws.{padded-at}
+use Rattle.judging.specs.Judging.{Good, JudgedAs, Judges}
+use Rattle.judging.specs.JudgingLaws.{padded-at}
 use Rattle.log.specs.Stepping.{rowStepBy, RowGoes}
 use Rattle.log.specs.SteppingLaws.{row-same}
 use Rattle.log.specs.Running.{ranOf, RunLeaves, readAs, Sure}

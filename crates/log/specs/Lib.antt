@@ -1,5 +1,3 @@
-pub mod Judging
-pub mod JudgingLaws
 pub mod Stepping
 pub mod SteppingLaws
 pub mod Running

@@ -33,7 +33,7 @@ use Rattle.steps.specs.declared.Answered.{Answered}
 use Rattle.steps.specs.Steps.{stepBy, answered, Leaves}
 use Rattle.known.specs.Knowing.{KnownOf}
 use Rattle.steps.specs.SteadyLaws.{kept-range, step-same}
-use Rattle.log.specs.JudgingLaws.{padded-at}
+use Rattle.judging.specs.JudgingLaws.{padded-at}
 use Rattle.log.specs.Stepping.{rowStepBy, RowGoes}
 
 -- What an entry says of the row ----------------------------------------------------------------------------------------

@@ -1,20 +1,17 @@
 // Rows of a log into a session (document 01, "Log rows and the run"): one row, and the run over a log held in memory.
 // The face: `row` and `run`, which take every input, judge it in the order of the refusals, and on a refusal leave every lent
-// number as it was. The interior: `judge_call` and `step_row`, for whoever takes rows one by one and judges once.
+// number as it was. The interior: `step_row`, for whoever takes rows one by one and has judged once.
 //
 //     row(declarations, p, &mut seen, n, &mut kept, m, &mut reports, b"feed,1,7") answers as the event of the row does;
 //     run(declarations, p, &mut seen, n, &mut kept, m, &mut reports, log, at, 10) takes at most ten rows from offset `at` on.
 ghost use mathlib.Core.Path.{_≡_};
 ghost use mathlib.Core.Bool.{true};
-ghost use Prim.Native.Nat.{ℕ, _≤_};
-ghost use Rattle.document.specs.Limits.{mostEvents};
 ghost use Rattle.document.specs.Session.{sound};
 ghost use Rattle.document.specs.Log.{row, run, runFrom};
 ghost use Rattle.property.specs.Meaning.{meaning};
 ghost use Rattle.judge.specs.Sound.{sessionOf};
 ghost use Rattle.steps.specs.Steps.{Leaves};
 ghost use Rattle.entries.specs.Entries.{declaredAt};
-ghost use Rattle.log.specs.Judging.{sameSets, agreesBy, Judges};
 ghost use Rattle.log.specs.Stepping.{rowStepBy, RowGoes};
 ghost use Rattle.log.specs.Running.{RunLeaves, readAs, Sure, turnBy, Onward};
 use combos::KEPT_STRIDE;
@@ -22,14 +19,6 @@ use moves::Known;
 use property::Property;
 use readings::Reading;
 use steps::Answered;
-
-// What is judged once per call: the number of refusal, or 0, and then what the declarations say and what is known of the
-// table.
-pub struct Judged {
-    pub refusal: u8,
-    pub reading: Reading,
-    pub known: Known,
-}
 
 // What the run answers: the number of the refusal that stopped it, or 0; the rows taken and the next offset; the rows of both
 // tables that count now; and the reports made.
@@ -40,95 +29,6 @@ pub struct Ran {
     pub seen: usize,
     pub kept: usize,
     pub reported: usize,
-}
-
-// Judging ---------------------------------------------------------------------------------------------------------------
-
-// Whether the first n sets are the same.
-fn same_sets(a: &[u8; 16], b: &[u8; 16], n: usize) -> bool
-    requires { ⌜ n ≤ mostEvents ⌝ }
-    ensures { λ r. ⌜ r ≡ sameSets (now (a .entry)) (now (b .entry)) n ⌝ }
-{
-    let mut e = n;
-    while 0 < e {
-        e -= 1;
-        if a[e] != b[e] {
-            return false;
-        }
-    }
-    true
-}
-
-// Whether declarations and table agree in counts and sets (25).
-fn table_agrees(reading: Reading, p: Property) -> bool
-    requires { ⌜ p .events ≤ mostEvents ⌝ }
-    ensures { λ r. ⌜ r ≡ agreesBy reading (meaning p) ⌝ }
-{
-    if p.parameters != reading.parameters {
-        return false;
-    }
-    if p.events != reading.events {
-        return false;
-    }
-    let lent = p.sets;
-    let said = reading.sets;
-    same_sets(&lent, &said, p.events)
-}
-
-// A refusal, with nothing known.
-fn refused_call(refusal: u8, reading: Reading) -> Judged
-    ensures { λ r. ⌜ r .refusal ≡ refusal ⌝ }
-{
-    Judged {
-        refusal,
-        reading,
-        known: Known {
-            parameters: 0,
-            states: 0,
-            hopeful: 0,
-            asked: 0,
-        },
-    }
-}
-
-// What row and run judge first: 1 to 5, 11, 25, 12.
-pub fn judge_call<'a, 'b>(
-    declarations: &'a [u8],
-    p: Property,
-    seen: &'b [u32],
-    n: usize,
-    kept: &'b [u32],
-    m: usize,
-) -> Judged
-    ensures { λ r. ⌜ Judges (now (declarations .entry)) (meaning p) (sessionOf n m (now (seen .entry)) (now (kept .entry))) r ⌝ }
-{
-    let reading = readings::read(declarations);
-    if reading.refusal != refusals::TAKEN {
-        return refused_call(reading.refusal, reading);
-    }
-    if !property::in_range(p) {
-        return refused_call(refusals::BAD_PROPERTY, reading);
-    }
-    if !table_agrees(reading, p) {
-        return refused_call(refusals::TABLE_DIFFERS, reading);
-    }
-    let known = known::work_out(p);
-    if !judge::sound(
-        known.parameters,
-        known.states,
-        known.hopeful,
-        seen,
-        n,
-        kept,
-        m,
-    ) {
-        return refused_call(refusals::BAD_SESSION, reading);
-    }
-    Judged {
-        refusal: refusals::TAKEN,
-        reading,
-        known,
-    }
 }
 
 // One row ---------------------------------------------------------------------------------------------------------------
@@ -313,7 +213,7 @@ pub fn row<'a, 'b>(
 ) -> Answered
     ensures { λ r. ⌜ Leaves (row (now (declarations .entry)) (meaning p) (sessionOf n m (now (seen .entry)) (now (kept .entry))) (now (reports .entry)) (now (bytes .entry))) (sessionOf n m (now (seen .entry)) (now (kept .entry))) (now (reports .entry)) r (now (seen .exit)) (now (kept .exit)) (now (reports .exit)) ⌝ }
 {
-    let judged = judge_call(declarations, p, seen, n, kept, m);
+    let judged = judging::judge_call(declarations, p, seen, n, kept, m);
     if judged.refusal != refusals::TAKEN {
         return Answered {
             refusal: judged.refusal,
@@ -364,7 +264,7 @@ pub fn run<'a, 'b>(
 ) -> Ran
     ensures { λ r. ⌜ RunLeaves (run (now (declarations .entry)) (meaning p) (sessionOf n m (now (seen .entry)) (now (kept .entry))) (now (reports .entry)) (now (log .entry)) at budget) r (now (seen .exit)) (now (kept .exit)) (now (reports .exit)) ⌝ }
 {
-    let judged = judge_call(declarations, p, seen, n, kept, m);
+    let judged = judging::judge_call(declarations, p, seen, n, kept, m);
     if judged.refusal != refusals::TAKEN {
         return ran_to(judged.refusal, 0, at, n, m, 0);
     }

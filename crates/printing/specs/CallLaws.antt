@@ -12,8 +12,8 @@ use Rattle.document.specs.Property.{Property}
 use Rattle.document.specs.Session.{Session, sound}
 use Rattle.judge.specs.Sound.{sessionOf}
 use Rattle.runs.specs.PrintPart.{PrintedTo}
-use Rattle.log.specs.declared.Judged.{Judged}
-use Rattle.log.specs.Judging.{Judges}
+use Rattle.judging.specs.declared.Judged.{Judged}
+use Rattle.judging.specs.Judging.{Judges}
 use Rattle.log.specs.CallsLaws.{judges-good, judges-bad, read-same, good-sure}
 use Rattle.log.specs.Running.{readAs, Sure}
 use Rattle.printing.specs.declared.Printed.{Printed}

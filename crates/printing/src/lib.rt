@@ -213,7 +213,7 @@ pub fn print<'a, 'b>(
 ) -> Printed
     ensures { λ x. ⌜ PrintLeaves (refusalOf (printCall (now (declarations .entry)) (meaning p) (sessionOf n m (now (seen .entry)) (now (kept .entry))) (now (reports .entry)) (now (log .entry)) at number (length (now (text .entry))))) (printsTo at number (sessionOf n m (now (seen .entry)) (now (kept .entry))) (now (reports .entry)) (printCall (now (declarations .entry)) (meaning p) (sessionOf n m (now (seen .entry)) (now (kept .entry))) (now (reports .entry)) (now (log .entry)) at number (length (now (text .entry))))) (now (text .entry)) x (now (seen .exit)) (now (kept .exit)) (now (reports .exit)) (now (text .exit)) ⌝ }
 {
-    let judged = log::judge_call(declarations, p, seen, n, kept, m);
+    let judged = judging::judge_call(declarations, p, seen, n, kept, m);
     if judged.refusal != refusals::TAKEN {
         return printed_to(judged.refusal, at, number, n, m, 0);
     }

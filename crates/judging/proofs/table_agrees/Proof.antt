@@ -1,9 +1,9 @@
--- `log::table_agrees` meets its contract: counts first, then the sets.
+-- `judging::table_agrees` meets its contract: counts first, then the sets.
 -- Assumes nothing.
-use Rattle.log.specs.JudgingLaws.{parameters-differ, events-differ, sets-decide}
+use Rattle.judging.specs.JudgingLaws.{parameters-differ, events-differ, sets-decide}
 use borrow.Author.Needs.{needs}
-use Rattle.log.proofs.table_agrees.Statement.{statement}
-use Rattle.log.proofs.table_agrees.Tie as tie
+use Rattle.judging.proofs.table_agrees.Statement.{statement}
+use Rattle.judging.proofs.table_agrees.Tie as tie
 
 returns : tie.Need-returns
 returns c = search (needs, parameters-differ)

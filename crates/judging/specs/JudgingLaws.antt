@@ -25,8 +25,8 @@ use Rattle.judge.specs.Sound.{soundBy}
 use Rattle.moves.specs.declared.Known.{Known}
 use Rattle.known.specs.Knowing.{KnownOf}
 use Rattle.known.specs.KnowingLaws.{known-sound, taken-property}
-use Rattle.log.specs.declared.Judged.{Judged}
-use Rattle.log.specs.Judging.{sameSets, agreesBy, Good, JudgedAs, Judges}
+use Rattle.judging.specs.declared.Judged.{Judged}
+use Rattle.judging.specs.Judging.{sameSets, agreesBy, Good, JudgedAs, Judges}
 
 -- The sets, from the last ----------------------------------------------------------------------------------------------
 

@@ -1,12 +1,12 @@
--- `log::same_sets` meets its contract: the sets below each event that is left are the same if all are.
+-- `judging::same_sets` meets its contract: the sets below each event that is left are the same if all are.
 -- Assumes nothing.
-use Rattle.log.specs.Judging.{sameSets}
-use Rattle.log.specs.JudgingLaws.{sets-differ, sets-turn, sets-same}
+use Rattle.judging.specs.Judging.{sameSets}
+use Rattle.judging.specs.JudgingLaws.{sets-differ, sets-turn, sets-same}
 use Prim.Native.Nat.{_≤_}
 use mathlib.Core.Path.{_≡_, refl}
 use borrow.Author.Needs.{needs}
-use Rattle.log.proofs.same_sets.Statement.{statement}
-use Rattle.log.proofs.same_sets.Tie as tie
+use Rattle.judging.proofs.same_sets.Statement.{statement}
+use Rattle.judging.proofs.same_sets.Tie as tie
 
 abbrev Inv-loop : tie.InvT-loop
 Inv-loop a b n e₀ e = (e ≤ 16) × (sameSets a b e ≡ sameSets a b n)

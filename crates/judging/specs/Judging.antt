@@ -15,7 +15,7 @@ use Rattle.document.specs.Log.{agrees, judged}
 use Rattle.readings.specs.declared.Reading.{Reading}
 use Rattle.readings.specs.Readings.{Stands}
 use Rattle.known.specs.Knowing.{KnownOf}
-use Rattle.log.specs.declared.Judged.{Judged}
+use Rattle.judging.specs.declared.Judged.{Judged}
 
 -- the first n numbers are the same
 unfoldable pub sameSets : List ℕ → List ℕ → ℕ → Bool

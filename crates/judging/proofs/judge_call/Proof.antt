@@ -1,10 +1,10 @@
--- `log::judge_call` meets its contract: each refusal in the document's order, then all that is known.
+-- `judging::judge_call` meets its contract: each refusal in the document's order, then all that is known.
 -- Assumes nothing.
-use Rattle.log.specs.JudgingLaws.{few-events, judge-declarations, judge-property, judge-table, judge-session, judge-good}
+use Rattle.judging.specs.JudgingLaws.{few-events, judge-declarations, judge-property, judge-table, judge-session, judge-good}
 use Rattle.known.specs.KnowingLaws.{taken-property, known-states}
 use borrow.Author.Needs.{needs}
-use Rattle.log.proofs.judge_call.Statement.{statement}
-use Rattle.log.proofs.judge_call.Tie as tie
+use Rattle.judging.proofs.judge_call.Statement.{statement}
+use Rattle.judging.proofs.judge_call.Tie as tie
 
 read-requires : tie.Need-read-requires
 read-requires c κs = search needs
