@@ -25,7 +25,7 @@ use Rattle.entries.specs.Entries.{isBarred, valuesSaid, entryOf}
 use Rattle.entries.specs.ValuesLaws.{value-good, value-none, value-bad, Takes, takes-begin, takes-bad, takes-more, takes-all, takes-fine}
 
 abbrev pub refusedEntry : ℕ → Entry
-refusedEntry q = record { refusal = q; event = 0; values = replicate 4 0 }
+refusedEntry q = record { refusal = q; event = 0; values = replicate width 0 }
 
 -- what the count of the fields says of the row: where it is not 0, no byte is barred and the count is right
 module _ (row : List ℕ) (m : ℕ) (q : m ≡ cond (some isBarred row) 0 (length (fields row))) (n : ℕ) (c : m ≡ n + 1) where
@@ -125,10 +125,10 @@ pub record Reading (row values : List ℕ) (n k end : ℕ) : Type 0 where
   pub reached : Reached row k end
   pub count : length (fields row) ≡ n + 1
   pub within : k ≤ n
-  pub few : n ≤ 4
+  pub few : n ≤ width
 
-pub reading-begins : (row : List ℕ) (end n : ℕ) → end ≡ upToComma row → length (fields row) ≡ n + 1 → n ≤ 4
-    → Reading row (replicate 4 0) n 0 end
+pub reading-begins : (row : List ℕ) (end n : ℕ) → end ≡ upToComma row → length (fields row) ≡ n + 1 → n ≤ width
+    → Reading row (replicate width 0) n 0 end
 reading-begins row end n e c h = record {
   takes = takes-begin (drop 1 (fields row));
   reached = reached-first row end e;
@@ -162,7 +162,7 @@ module _ (row values : List ℕ) (n k end : ℕ) (g : Reading row values n k end
       rest : length (drop 1 (fields row)) ≡ n
       rest = rest-right row n (g .count)
 
-      pub reading-bad : v .bad ≡ true → _≡_ {A = Values} (record { bad = true; values = replicate 4 0 }) (valuesSaid (drop 1 (fields row)))
+      pub reading-bad : v .bad ≡ true → _≡_ {A = Values} (record { bad = true; values = replicate width 0 }) (valuesSaid (drop 1 (fields row)))
       unfolding valuesSaid
       reading-bad t =
           let b : true ≡ isBadValue (getD (drop 1 (fields row)) k []) = sym t ∙ ap (λ x. x .bad) e ∙ ap isBadValue here in

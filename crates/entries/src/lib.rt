@@ -5,12 +5,14 @@ ghost use mathlib.Core.Bool.{cond};
 ghost use Prim.Native.Nat.{_+_, _≤_};
 ghost use lib.ListN.{length, drop};
 ghost use Rattle.document.specs.Lists.{some};
-ghost use Rattle.document.specs.Limits.{mostEvents};
+ghost use Rattle.document.specs.Limits.{width, mostEvents};
 ghost use Rattle.document.specs.Rows.{fields, valueOf};
 ghost use Rattle.document.specs.Log.{isBadValue, rowEvent};
 ghost use Rattle.rows.specs.Split.{upToComma};
 ghost use Rattle.readings.specs.Readings.{Inside};
 ghost use Rattle.entries.specs.Entries.{isBarred, valuesSaid, declaredAt, entryOf};
+use combos::Combination;
+use combos::WIDTH;
 
 pub const ROW_BYTES: usize = 128;
 
@@ -28,7 +30,7 @@ const ZERO: u8 = 48;
 pub struct Entry {
     pub refusal: u8,
     pub event: usize,
-    pub values: [u32; 4],
+    pub values: Combination,
 }
 
 // The value of a field, 0 where it is empty; or that it is neither empty nor a value.
@@ -40,7 +42,7 @@ pub struct Value {
 // The values of a row's fields; or that one of them is neither empty nor a value.
 pub struct Values {
     pub bad: bool,
-    pub values: [u32; 4],
+    pub values: Combination,
 }
 
 // Whether a byte is one that no row may hold: a CR, an LF or a quote.
@@ -107,10 +109,10 @@ fn value_said(f: &[u8]) -> Value
 
 // The values of a row's fields after the first, which ends at `from`: each field is found from the end of the one before.
 fn values_said(row: &[u8], from: usize, parameters: usize) -> Values
-    requires { ⌜ (from ≡ upToComma (now row)) × ((length (fields (now row)) ≡ parameters + 1) × (parameters ≤ 4)) ⌝ }
+    requires { ⌜ (from ≡ upToComma (now row)) × ((length (fields (now row)) ≡ parameters + 1) × (parameters ≤ width)) ⌝ }
     ensures { λ r. ⌜ r ≡ valuesSaid (drop 1 (fields (now (row .entry)))) ⌝ }
 {
-    let mut values = [0u32; 4];
+    let mut values = [0u32; WIDTH];
     let mut end = from;
     let mut k: usize = 0;
     while k < parameters {
@@ -120,7 +122,7 @@ fn values_said(row: &[u8], from: usize, parameters: usize) -> Values
         if v.bad {
             return Values {
                 bad: true,
-                values: [0u32; 4],
+                values: [0u32; WIDTH],
             };
         }
         values[k] = v.value;
@@ -136,12 +138,12 @@ fn wide(x: u8) -> u64
 }
 
 fn refused(refusal: u8) -> Entry
-    ensures { λ r. ⌜ r ≡ record { refusal = refusal; event = 0; values = lib.ListN.replicate 4 0 } ⌝ }
+    ensures { λ r. ⌜ r ≡ record { refusal = refusal; event = 0; values = lib.ListN.replicate width 0 } ⌝ }
 {
     Entry {
         refusal,
         event: 0,
-        values: [0u32; 4],
+        values: [0u32; WIDTH],
     }
 }
 
@@ -155,7 +157,7 @@ pub fn read_row<'a, 'b, 'c>(
     parameters: usize,
     row: &'c [u8],
 ) -> Entry
-    requires { ⌜ Inside (now text) (now starts) (now sizes) × ((events ≤ mostEvents) × (parameters ≤ 4)) ⌝ }
+    requires { ⌜ Inside (now text) (now starts) (now sizes) × ((events ≤ mostEvents) × (parameters ≤ width)) ⌝ }
     ensures { λ r. ⌜ r ≡ entryOf (rowEvent (declaredAt (now (text .entry)) (now (starts .entry)) (now (sizes .entry)) (now (sets .entry)) events parameters) (now (row .entry))) ⌝ }
 {
     if ROW_BYTES < row.len() {
@@ -179,7 +181,7 @@ pub fn read_row<'a, 'b, 'c>(
         return refused(refusals::WRONG_FIELDS);
     }
     Entry {
-        refusal: 0,
+        refusal: refusals::TAKEN,
         event,
         values,
     }

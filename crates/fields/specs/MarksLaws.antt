@@ -12,6 +12,7 @@ use native.Mathlib.Nat.{two-pow-succ}
 use native.Mathlib.Numerals.{add-one}
 use borrow.Author.Tests.{not-true, not-false}
 use Rattle.document.specs.Lists.{every, some, among, repeated, equal}
+use Rattle.document.specs.Limits.{width}
 use Rattle.document.specs.Classes.{oneByte}
 use Rattle.document.specs.Rows.{fields, field}
 use Rattle.document.specs.Declarations.{setFrom}
@@ -88,7 +89,7 @@ repeat-over row f k q s m h = rw (fields-past row f k s m h) at q
 pub record Sums (row : List ℕ) (set bit k : ℕ) : Type 0 where
   pub place : 1 ≤ k
   pub power : bit ≡ 2 ^ (k - 1)
-  pub small : bit ≤ 16
+  pub small : bit ≤ 2 ^ width
   pub below : set < bit
   pub sum : set + setFrom (k - 1) (drop k (fields row)) ≡ setFrom 0 (drop 1 (fields row))
 
@@ -107,8 +108,8 @@ set-here row f k s m h l = let e : suc (k - 1) ≡ k + 1 - 1 = omega arith in rw
 pub sums-turn : (row : List ℕ) (f : Fields) (set bit k : ℕ) → Sums row set bit k → Split row f → f .count ≤ mostFields → k < f .count
     → (x : List ℕ) → x ≡ field row k → (w : ℕ) → w ≡ cond (equal x (oneByte ∷ [])) bit 0 → Sums row (set + w) (bit * 2) (k + 1)
 sums-turn row f set bit k i s m h x e w q =
-    let p : k - 1 ≤ 3 = omega arith in
-    let n : 2 ^ (k - 1) ≤ 8 = pow-mono p in
+    let p : k - 1 ≤ width - 1 = omega arith in
+    let n : 2 ^ (k - 1) ≤ 2 ^ (width - 1) = pow-mono p in
     let z : bit ≡ 2 ^ (k - 1) = i .power in
     let d : 2 ^ suc (k - 1) ≡ 2 ^ (k - 1) + 2 ^ (k - 1) = two-pow-succ (k - 1) in
     let j : suc (k - 1) ≡ k + 1 - 1 = let o = i .place in omega arith in

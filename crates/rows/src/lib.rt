@@ -137,8 +137,8 @@ pub fn field(row: &[u8], number: usize) -> &[u8]
 // can have start and how long they are.
 pub struct Fields {
     pub count: usize,
-    pub starts: [usize; 5],
-    pub sizes: [usize; 5],
+    pub starts: [usize; MOST_FIELDS],
+    pub sizes: [usize; MOST_FIELDS],
 }
 
 // The fields with one more.
@@ -163,8 +163,8 @@ pub fn split(row: &[u8]) -> Fields
 {
     let none = Fields {
         count: 0,
-        starts: [0; 5],
-        sizes: [0; 5],
+        starts: [0; MOST_FIELDS],
+        sizes: [0; MOST_FIELDS],
     };
     let mut start: usize = 0;
     let mut end = field_end(row, start);

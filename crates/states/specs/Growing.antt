@@ -9,7 +9,7 @@ use lib.ListN.{length, getD, take, replicate}
 use lib.Dec.{eqb, ltb}
 use lib.Bits.{bitOr, bitAnd}
 use Rattle.document.specs.Lists.{tabulate}
-use Rattle.document.specs.Limits.{mostEvents, mostStates}
+use Rattle.document.specs.Limits.{mostEvents, mostNames, mostStates}
 use Rattle.document.specs.Patterns.{Pattern, match, fail, undecided}
 use Rattle.document.specs.Positions as positions
 use Rattle.document.specs.Positions.{holds, verdictOf}
@@ -26,7 +26,7 @@ nextsOf after s (suc n) = bitOr (nextsOf after s n) (cond (holds s n) (getD afte
 
 -- the sets that the events lead to from the set s
 abbrev pub moveOf : List ℕ → List ℕ → ℕ → ℕ → ℕ → ℕ
-moveOf after named base s e = bitOr (bitAnd (nextsOf after s 32) (getD named e 0)) base
+moveOf after named base s e = bitOr (bitAnd (nextsOf after s (suc mostNames)) (getD named e 0)) base
 
 unfoldable pub movesOf : List ℕ → List ℕ → ℕ → ℕ → List ℕ
 movesOf after named base s = tabulate mostEvents (moveOf after named base s)
@@ -49,7 +49,7 @@ pub record Row (to : List ℕ) (m i n : ℕ) (sets sets′ next next′ : List �
 -- the lists are those of the pattern p: what can come next after each number, the numbers that name each event, and what each
 -- set holds besides
 pub record Reads (p : Pattern) (anew : Bool) (after named : List ℕ) (base : ℕ) : Type 0 where
-  pub nexts : (k : ℕ) → k < 32 → getD after k 0 ≡ positions.next p k
+  pub nexts : (k : ℕ) → k < suc mostNames → getD after k 0 ≡ positions.next p k
   pub names : (e : ℕ) → e < mostEvents → getD named e 0 ≡ positions.named p e
   pub starts : base ≡ cond anew 1 0
 
@@ -73,7 +73,7 @@ verdictsFrom null last n sets = tabulate mostStates (λ s. cond (ltb s n) (verdi
 
 -- the table of the states found, as the property table has it; or that they are too many
 abbrev pub tooMany : Table
-tooMany = record { over = true; states = 0; next = replicate 1024 0; verdicts = replicate 64 0 }
+tooMany = record { over = true; states = 0; next = replicate (mostStates * mostEvents) 0; verdicts = replicate mostStates 0 }
 
 unfoldable pub tableOf : Pattern → Found → Table
 tableOf p g = cond (ltb mostStates (length (g .sets))) tooMany (record {

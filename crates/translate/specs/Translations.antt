@@ -1,11 +1,11 @@
 -- What `translate` answers, by the definition's answer. Document 01, "The pattern text" and "The table".
 -- Assumes nothing.
-use Prim.Native.Nat.{ℕ}
+use Prim.Native.Nat.{ℕ, _*_}
 use mathlib.Core.Path.{_≡_}
 use mathlib.Core.List.{List}
 use lib.ListN.{length, replicate}
 use lib.Dec.{ltb}
-use Rattle.document.specs.Limits.{mostStates}
+use Rattle.document.specs.Limits.{mostEvents, mostStates}
 use Rattle.document.specs.Refusals.{tooManyStates, Answer, taken, refused, refuseIf, number}
 use Rattle.document.specs.Declarations.{Declared, declarations}
 use Rattle.document.specs.States.{statesOf}
@@ -41,9 +41,9 @@ refusedTable q at = record {
     events = 0;
     states = 0;
     asked = 0;
-    sets = replicate 16 0;
-    next = replicate 1024 0;
-    verdicts = replicate 64 0;
+    sets = replicate mostEvents 0;
+    next = replicate (mostStates * mostEvents) 0;
+    verdicts = replicate mostStates 0;
   };
 }
 
