@@ -1,9 +1,9 @@
 -- Laws of what `read` answers, for whoever goes on from it: taken, it stands for the declarations; else it has the refusal.
 -- Assumes nothing.
-use Prim.Native.Nat.{ℕ, _+_, _-_, _≤_, _<_}
+use Prim.Native.Nat.{ℕ, zero, suc, _+_, _-_, _≤_, _<_}
 use mathlib.Core.Path.{_≡_, refl, sym, ap, _∙_}
 use mathlib.Core.Bool.{Bool, true, false, not}
-use mathlib.Core.List.{List, []}
+use mathlib.Core.List.{List, [], _∷_, _++_}
 use denote.Ref.{RefT}
 use lib.ListN.{length, getD, take, drop, replicate, List·getD-eq-default}
 use native.Mathlib.Omega.{arith}
@@ -14,6 +14,7 @@ use Rattle.document.specs.Refusals.{Refusal, headerDiffers, number, Answer, tak
 use Rattle.document.specs.RefusalsLaws.{number-some}
 use Rattle.document.specs.Rows.{firstRow}
 use Rattle.document.specs.Declarations.{Declared, declarations, header, eventNameOf, eventName}
+use Rattle.basics.specs.Lists.{zero-at}
 use Rattle.rows.specs.TextLaws.{row-part}
 use Rattle.rows.specs.Places.{PartAt}
 use Rattle.declared.specs.declared.Reading.{Reading}
@@ -153,3 +154,17 @@ event-inside text t event r n h =
     let w = reads-taken text t r n in
     let f = w .stands .fewEvents in
     (omega arith, w .stands .inside .within event)
+
+-- a reading that is not refused is one of declarations that are taken
+pub taken-declared : (text : List ℕ) (t : Reading) → Reads text t → t .refusal ≡ 0 → refusalOf (declarations text) ≡ 0
+taken-declared text t r n = rw (reads-taken text t r n .is)
+
+-- a number that is not there is 0, as padding is
+pad-at : (l : List ℕ) (k e : ℕ) → getD (l ++ replicate k 0) e 0 ≡ getD l e 0
+pad-at [] k e = zero-at k e
+pad-at (x ∷ l) k zero = refl
+pad-at (x ∷ l) k (suc e) = pad-at l k e
+
+pub padded-at : (l : List ℕ) (e : ℕ) → getD (padded l) e 0 ≡ getD l e 0
+unfolding padded
+padded-at l e = pad-at l (mostEvents - length l) e

@@ -3,4 +3,3 @@ pub mod StepLaws
 pub mod SteadyLaws
 pub mod FaceLaws
 pub mod LookupLaws
-pub mod GoesOnLaws
