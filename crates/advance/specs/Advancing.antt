@@ -4,14 +4,13 @@
 -- Assumes nothing.
 use Prim.Native.Nat.{ℕ, _+_, _*_, _-_, _<_, _≤_}
 use mathlib.Core.Path.{_≡_}
-use mathlib.Core.Bool.{Bool, true, false, _&&_}
-use mathlib.Core.List.{List, [], _∷_, _++_}
+use mathlib.Core.Bool.{true, false}
+use mathlib.Core.List.{List, [], _++_}
 use mathlib.Core.List as list
 use lib.ListN.{length, getD, drop}
 use Rattle.document.specs.Lists.{In, consIf}
 use Rattle.document.specs.Limits.{width, keptStride}
 use Rattle.document.specs.Positions.{holds}
-use Rattle.document.specs.Combinations.{includes}
 use Rattle.document.specs.OneEvent.{Kept}
 use Rattle.document.specs.Tables.{numbersAt, reportRoom}
 use Rattle.slices.specs.OrderLaws.{Ascends, combinations}

@@ -11,29 +11,29 @@ use native.Mathlib.Nat.{zero-add}
 use native.Mathlib.Decide.{ℕ-discrete}
 use lib.Dec.{eqb}
 use lib.ListN.{length, getD, drop, length-drop}
-use borrow.Author.Tests.{ne-eqb, eqb-false}
-use Rattle.document.specs.Lists.{In, consIf}
+use borrow.Author.Tests.{eqb-false}
+use Rattle.document.specs.Lists.{consIf}
 use Rattle.document.specs.Limits.{width, keptStride, reportStride, mostEvents, mostStates}
 use Rattle.document.specs.Positions.{holds}
 use Rattle.document.specs.Combinations.{includes}
 use Rattle.document.specs.OneEvent.{Kept}
 use Rattle.document.specs.Tables.{numbersAt, reportRoom}
-use Rattle.slices.specs.TestsLaws.{so, either, not-of, and-of}
+use Rattle.basics.specs.Tests.{decided}
+use Rattle.slices.specs.TestsLaws.{so, not-of, and-of}
 use Rattle.slices.specs.ListsLaws.{map-append}
+use Rattle.slices.specs.TablesLaws.{keptAt}
 use Rattle.combos.specs.Writes.{Put}
-use Rattle.combos.specs.RowsLaws.{tabulate-in}
-use Rattle.tables.specs.Tables.{rowAt, keptFrom}
-use Rattle.tables.specs.TablesLaws.{kept-more, kept-two, kept-tabulated, row-move}
+use Rattle.tables.specs.Tables.{keptFrom}
+use Rattle.tables.specs.TablesLaws.{kept-more, kept-two, row-move}
 use Rattle.moves.specs.Steps.{stepOf, stateIn}
 use Rattle.keeping.specs.Keeping.{sifted, SettleReady, SettledRow}
-use Rattle.keeping.specs.SiftLaws.{settle-stays, settle-drops, settle-moves, Sifting, sifting-ready, sifting-turn}
+use Rattle.keeping.specs.SiftLaws.{settle-stays, settle-drops, settle-moves, sifting-ready, sifting-turn}
 use Rattle.writing.specs.Writing.{reportOf}
 use Rattle.inplace.specs.InPlace.{movedOn, told, Movable}
 use Rattle.inplace.specs.SpanLaws.{rising-of}
 use Rattle.inplace.specs.ToldLaws.{told-append, told-none, sifted-append, sifted-none}
 use Rattle.inplace.specs.AgreeLaws.{apart, rows-in}
-use Rattle.advance.specs.Advancing.{ToldRow, MovedRow, Advanceable, Tells, Passing, Passable, Passes, PassesOn}
-use Rattle.advance.specs.declared.Passed.{Passed}
+use Rattle.advance.specs.Advancing.{ToldRow, MovedRow, Advanceable, Passing, Passable, Passes, PassesOn}
 
 pub movable-of : (next : List ℕ) (states e m from : ℕ) (b kept reports : List ℕ) → Advanceable next states e m from b kept reports → Movable next states e m b kept
 movable-of next states e m from b kept reports u = record { moves = u .moves; wide = u .wide; inside = u .inside; order = u .order; within = u .within }
@@ -69,7 +69,7 @@ module _ (next verdicts : List ℕ) (states hopes asks e m from i o count : ℕ)
       rw q (omega arith)
 
   -- row i is as it was
-  row-same : rowAt kept (i * keptStride) ≡ rowAt kept₀ (i * keptStride)
+  row-same : keptAt width kept (i * keptStride) ≡ keptAt width kept₀ (i * keptStride)
   row-same = row-move kept₀ kept (i * keptStride) (i * keptStride) (λ k g. u .sifts .rest (i * keptStride + k) (omega arith))
 
   told-more : told (stepOf next) e b (stateIn asks) (keptFrom (i + 1) kept₀ 0)
@@ -78,8 +78,8 @@ module _ (next verdicts : List ℕ) (states hopes asks e m from i o count : ℕ)
       (record { combination = numbersAt width kept (i * keptStride); state = stepOf next (getD kept (i * keptStride + width) 0) e }) []
   unfolding told movedOn stateIn
   told-more =
-      ap (told (stepOf next) e b (stateIn asks)) (kept-more i kept₀ 0 ∙ ap (λ (x : ℕ). keptFrom i kept₀ 0 ++ (rowAt kept₀ x ∷ [])) (zero-add (i * keptStride)))
-      ∙ told-append (stepOf next) e b (stateIn asks) (keptFrom i kept₀ 0) (rowAt kept₀ (i * keptStride) ∷ [])
+      ap (told (stepOf next) e b (stateIn asks)) (kept-more i kept₀ 0 ∙ ap (λ (x : ℕ). keptFrom i kept₀ 0 ++ (keptAt width kept₀ x ∷ [])) (zero-add (i * keptStride)))
+      ∙ told-append (stepOf next) e b (stateIn asks) (keptFrom i kept₀ 0) (keptAt width kept₀ (i * keptStride) ∷ [])
       ∙ ap (λ (k : Kept). told (stepOf next) e b (stateIn asks) (keptFrom i kept₀ 0) ++ told (stepOf next) e b (stateIn asks) (k ∷ [])) (sym row-same)
 
   module _ (f : Bool) (q : f ≡ includes (numbersAt width kept (i * keptStride)) b) where
@@ -135,7 +135,7 @@ module _ (next verdicts : List ℕ) (states hopes asks e m from i o count : ℕ)
         row = numbersAt width kept (i * keptStride)
 
         moved-row : SettledRow next hopes e i o b kept kept′ s
-        moved-row = elim (either (holds hopes to)) [
+        moved-row = elim (decided (holds hopes to)) [
           | inl g ↦
               let w = v .goes g in
               rw (w .0) (settle-moves next states hopes e i o b kept ready row f refl q (rw z) to true kept′ p (sym g) refl (w .1))
@@ -146,7 +146,7 @@ module _ (next verdicts : List ℕ) (states hopes asks e m from i o count : ℕ)
 
         report-of : consIf (holds asks to) (record { combination = row; state = getD verdicts to 0 }) []
             ≡ list.map (reportOf verdicts) (consIf (holds asks to) (record { combination = row; state = to }) [])
-        report-of = elim (either (holds asks to)) [ inl g ↦ rw g | inr g ↦ rw g ]
+        report-of = elim (decided (holds asks to)) [ inl g ↦ rw g | inr g ↦ rw g ]
 
 -- Where it ends --------------------------------------------------------------------------------------------------------
 

@@ -17,11 +17,13 @@ use Rattle.document.specs.Positions.{holds}
 use Rattle.document.specs.Combinations.{includes}
 use Rattle.document.specs.OneEvent.{Kept}
 use Rattle.document.specs.Tables.{numbersAt}
-use Rattle.slices.specs.TestsLaws.{so, not-so, either}
-use Rattle.combos.specs.NumbersLaws.{length-numbersAt, getD-numbersAt, Included, included-begins, included-stops, included-turn}
+use Rattle.basics.specs.Tests.{decided}
+use Rattle.slices.specs.TestsLaws.{so, not-so}
+use Rattle.slices.specs.TablesBackLaws.{length-numbersAt}
+use Rattle.combos.specs.NumbersLaws.{getD-numbersAt, Included, included-begins, included-stops, included-turn}
 use Rattle.combos.specs.Writes.{Put}
+use Rattle.combos.specs.WritesLaws.{state-put}
 use Rattle.tables.specs.TablesLaws.{row-is, kept-move, kept-more}
-use Rattle.inplace.specs.WalkLaws.{state-put}
 use Rattle.advance.specs.Advancing.{ToldRow, MovedRow, Lowered}
 
 -- Whether it includes the binding --------------------------------------------------------------------------------------
@@ -111,7 +113,7 @@ module _ (hopes to i o : ℕ) (t : List ℕ) (f : Bool) (q : f ≡ holds hopes t
   row-goes z c t′ e p = goes-on z t′ (subst (λ (x : List ℕ). Put (o * keptStride) x to t t′) e p)
 
 pub moved-before : (hopes to i o : ℕ) (t t′ : List ℕ) (r : ℕ) → MovedRow hopes to i o t t′ r → o ≤ i → r ≤ i + 1
-moved-before hopes to i o t t′ r v h = elim (either (holds hopes to)) [
+moved-before hopes to i o t t′ r v h = elim (decided (holds hopes to)) [
   | inl y ↦ let q = v .goes y .0 in omega arith
   | inr y ↦ let q = v .drops y .0 in omega arith
 ]

@@ -1,13 +1,13 @@
 -- Laws of combinations number by number, as a loop over two combinations meets them: what is left from a number on, by what
 -- that number says.
 -- Assumes nothing.
-use Prim.Native.Nat.{ℕ, zero, suc, _+_, _-_, _≤_, _<_}
+use Prim.Native.Nat.{ℕ, zero, suc, _+_, _≤_, _<_}
 use mathlib.Core.Path.{_≡_, refl, sym, ap, _∙_}
-use mathlib.Core.Bool.{Bool, true, false, not, cond, _&&_, _||_}
+use mathlib.Core.Bool.{Bool, true, false, not, cond, _||_}
 use mathlib.Core.List.{List, [], _∷_}
 use lib.ListN.{length, getD, set, drop, drop-of-length-le, length-set}
 use lib.Seq.{drop-cons, getD-set-same, getD-set-other, ext-getD}
-use lib.Dec.{eqb, ltb}
+use lib.Dec.{eqb}
 use native.Mathlib.Omega.{arith}
 use native.Mathlib.Numerals.{add-one}
 use native.Mathlib.Decide.{ℕ-discrete}
@@ -18,6 +18,7 @@ use Rattle.document.specs.Positions.{holds}
 use Rattle.document.specs.Combinations.{includes, compatible, join, precedes, bindsFrom, bindsExactly, zeroPast}
 use Rattle.document.specs.Tables.{numbersAt}
 use Rattle.slices.specs.CombinationsLaws.{length-join}
+use Rattle.slices.specs.TablesBackLaws.{length-numbersAt}
 
 -- what is left from a number on is that number and what is left after it
 drop-here : (c : List ℕ) (j : ℕ) → length c ≡ width → j < width → drop j c ≡ getD c j 0 ∷ drop (j + 1) c
@@ -258,11 +259,6 @@ pub joined-ends : (c b out : List ℕ) (j : ℕ) → Joined c b out j → width 
 joined-ends c b out j i h = written-all (join c b) out j (i .writes) h
 
 -- a row of a table, written
-pub length-numbersAt : (n : ℕ) (t : List ℕ) (at : ℕ) → length (numbersAt n t at) ≡ n
-unfolding numbersAt
-length-numbersAt zero t at = refl
-length-numbersAt (suc n) t at = ap suc (length-numbersAt n t (at + 1))
-
 pub getD-numbersAt : (n : ℕ) (t : List ℕ) (at k : ℕ) → k < n → getD (numbersAt n t at) k 0 ≡ getD t (at + k) 0
 unfolding numbersAt
 getD-numbersAt zero t at k h = absurd (omega arith)

@@ -3,17 +3,18 @@
 -- Assumes nothing.
 use Prim.Native.Nat.{ℕ, zero, suc, _+_, _*_, _/_, _%_, _^_, _<_, _≤_}
 use mathlib.Core.Path.{_≡_, refl, sym, ap, ap₂, _∙_}
-use mathlib.Core.Logic.{_⊎_, inl, inr}
+use mathlib.Core.Logic.{inl, inr}
 use mathlib.Core.Bool.{Bool, true, false, not, cond, _&&_, _||_}
 use mathlib.Core.List.{List, [], _∷_}
 use lib.ListN.{length, getD, set}
 use lib.Dec.{T, eqb, eqb→eq}
 use native.Mathlib.Omega.{arith}
-use native.Mathlib.Nat.{div-div-eq-div-mul, pow-succ', add-suc, two-pow-succ}
+use native.Mathlib.Nat.{div-div-eq-div-mul, pow-succ', two-pow-succ}
 use Rattle.document.specs.Limits.{width}
 use Rattle.document.specs.Positions.{holds}
 use Rattle.document.specs.Combinations.{includes, bindsFrom, bindsExactly}
-use Rattle.slices.specs.TestsLaws.{so, not-so, either, and-of, of-and, or-of, of-or, of-eqb, true-of}
+use Rattle.basics.specs.Tests.{decided}
+use Rattle.slices.specs.TestsLaws.{so, not-so, and-of, of-and, or-of, of-or, of-eqb, true-of}
 use Rattle.combos.specs.Restrictions.{restrictedFrom, restricted}
 use Rattle.combos.specs.NumbersLaws.{Written, written-none, written-more, written-all}
 
@@ -90,7 +91,7 @@ bound-from (x ∷ c) (y ∷ b) t =
     let h = and-of (eqb y 0 || eqb x y) (includes c b) t in
     let rest = bound-from c b (h .1) in
     let m = boundOf b in
-    elim (either (eqb y 0)) [
+    elim (decided (eqb y 0)) [
       | inl e ↦
           let d : (0 + 2 * m) / 2 ≡ m = omega arith in
           rw (e, first-unbound m) (ap₂ _∷_ (sym (eqb→eq y 0 (so e))) (restricted-next 0 (0 + 2 * m) c ∙ ap (λ n. restrictedFrom 0 n c) d ∙ rest))
@@ -110,7 +111,7 @@ binds-from [] = tt
 binds-from (y ∷ b) =
     let m = boundOf b in
     let rest = binds-from b in
-    elim (either (eqb y 0)) [
+    elim (decided (eqb y 0)) [
       | inl e ↦
           let d : (0 + 2 * m) / 2 ≡ m = omega arith in
           let r : bindsFrom 1 (0 + 2 * m) b ≡ true = binds-next 0 (0 + 2 * m) b ∙ ap (λ n. bindsFrom 0 n b) d ∙ true-of (bindsFrom 0 m b) rest in
@@ -128,7 +129,7 @@ binds-bound b = true-of (bindsFrom 0 (boundOf b) b) (binds-from b)
 pub bound-less : (b : List ℕ) → boundOf b < 2 ^ length b
 unfolding boundOf
 bound-less [] = omega arith
-bound-less (y ∷ b) = elim (either (eqb y 0)) [
+bound-less (y ∷ b) = elim (decided (eqb y 0)) [
   | inl e ↦ rw e (omega (arith, bound-less b, two-pow-succ (length b)))
   | inr e ↦ rw e (omega (arith, bound-less b, two-pow-succ (length b)))
 ]
@@ -136,7 +137,7 @@ bound-less (y ∷ b) = elim (either (eqb y 0)) [
 included-from : (k s : ℕ) (c : List ℕ) → T (includes c (restrictedFrom k s c))
 unfolding restrictedFrom includes
 included-from k s [] = tt
-included-from k s (x ∷ c) = elim (either (holds s k)) [
+included-from k s (x ∷ c) = elim (decided (holds s k)) [
   | inl e ↦ rw e (of-and (eqb x 0 || eqb x x) (includes c (restrictedFrom (suc k) s c)) (of-or (eqb x 0) (eqb x x) (inr (of-eqb x x refl))) (included-from (suc k) s c))
   | inr e ↦ rw e (included-from (suc k) s c)
 ]

@@ -1,10 +1,10 @@
 -- The turns of a binary search, and what it finds in the seen rows.
 -- Assumes nothing.
 use Prim.Native.Nat.{ℕ, zero, suc, _+_, _*_, _<_, _≤_}
-use mathlib.Core.Path.{_≡_, refl, sym, ap, ap₂, subst, _∙_}
-use mathlib.Core.Logic.{_⊎_, inl, inr, _↔_}
+use mathlib.Core.Path.{_≡_, refl, sym, ap, _∙_}
+use mathlib.Core.Logic.{inl, inr}
 use mathlib.Core.Bool.{Bool, true, false}
-use mathlib.Core.List.{List, [], _∷_}
+use mathlib.Core.List.{List}
 use native.Mathlib.Omega.{arith}
 use native.Mathlib.Nat.{mul-le-mul-right, zero-add}
 use native.Mathlib.Decide.{decLt, ℕ-discrete}
@@ -15,8 +15,8 @@ use Rattle.document.specs.Limits.{width, seenStride}
 use Rattle.document.specs.Combinations.{precedes}
 use Rattle.document.specs.Tables.{numbersAt, seenRows}
 use Rattle.document.specs.Session.{ascending}
-use Rattle.slices.specs.TestsLaws.{so, not-so, true-of, false-of, either, equal-of, of-equal, among-of, same-test}
-use Rattle.slices.specs.OrderLaws.{precedes-irrefl, precedes-trans, precedes-or, Ascends, ascending-of}
+use Rattle.slices.specs.TestsLaws.{so, not-so, true-of, false-of, equal-of, of-equal, among-of, same-test}
+use Rattle.slices.specs.OrderLaws.{precedes-irrefl, precedes-trans, Ascends, ascending-of}
 use Rattle.combos.specs.Rows.{Searchable, Parted, SeenInOrder}
 
 -- a row's numbers lie in the table

@@ -1,7 +1,7 @@
 -- The turns of the loops that write: one number more.
 -- Assumes nothing.
-use Prim.Native.Nat.{ℕ, _+_, _-_, _<_, _≤_}
-use mathlib.Core.Path.{_≡_, refl, subst, _∙_}
+use Prim.Native.Nat.{ℕ, _+_, _-_, _*_, _<_, _≤_}
+use mathlib.Core.Path.{_≡_, refl, sym, subst, _∙_}
 use mathlib.Core.Logic.{_⊎_, inl, inr}
 use mathlib.Core.List.{List}
 use native.Mathlib.Omega.{arith}
@@ -9,7 +9,9 @@ use native.Mathlib.Decide.{decLt, ℕ-discrete}
 use lib.ListN.{length, getD, set}
 use lib.Seq.{getD-set-same, getD-set-other}
 use Rattle.document.specs.Limits.{width, seenStride, keptStride}
+use Rattle.document.specs.Tables.{numbersAt}
 use Rattle.combos.specs.Writes.{Raised, Pasted, SeenInserted, Put, Inserted, ZeroIn}
+use Rattle.combos.specs.NumbersLaws.{getD-numbersAt}
 
 pub raised-begins : (by n : ℕ) (t : List ℕ) → Raised by n n t t
 raised-begins by n t = record { low = λ k h. refl; mid = λ k h g. absurd (omega arith); high = λ k h. refl }
@@ -112,4 +114,21 @@ clears-ends from p to t t′ h u = record {
     | yes g ↦ elim (u .stops) [ inl e ↦ u .low k (omega arith) | inr e ↦ absurd (omega arith) ]
     | no g ↦ u .high k (omega arith)
   ];
+}
+
+-- a kept row written where it stands, and one whose state alone is written
+pub stays-put : (i o : ℕ) (t : List ℕ) → o ≡ i → Put (o * keptStride) (numbersAt width t (i * keptStride)) (getD t (i * keptStride + width) 0) t t
+stays-put i o t q = rw q (record {
+  row = λ k h. sym (getD-numbersAt width t (i * keptStride) k h);
+  last = refl;
+  low = λ k h. refl;
+  high = λ k h. refl;
+})
+
+pub state-put : (at s : ℕ) (t : List ℕ) → at + keptStride ≤ length t → Put at (numbersAt width t at) s t (set t (at + width) s)
+state-put at s t h = record {
+  row = λ k g. getD-set-other t (at + width) (at + k) s 0 (λ q. omega arith) ∙ sym (getD-numbersAt width t at k g);
+  last = getD-set-same t (at + width) s 0 (omega arith);
+  low = λ k g. getD-set-other t (at + width) k s 0 (λ q. omega arith);
+  high = λ k g. getD-set-other t (at + width) k s 0 (λ q. omega arith);
 }

@@ -1,6 +1,6 @@
 -- Laws of decimal numbers: how many digits there are, and that they are the last so many.
 -- Assumes nothing.
-use Prim.Native.Nat.{ℕ, zero, suc, _+_, _-_, _/_, _%_, _^_, _≤_, _<_}
+use Prim.Native.Nat.{ℕ, zero, suc, _+_, _/_, _%_, _^_, _≤_, _<_}
 use mathlib.Core.Path.{_≡_, refl, ap}
 use mathlib.Core.Logic.{_⊎_, inl, inr}
 use mathlib.Core.List.{[], _∷_, _++_}
@@ -11,7 +11,7 @@ use lib.Dec.{ltb}
 use borrow.Author.Tests.{lt-ltb, le-ltb, ltb-true, ltb-false}
 use Rattle.document.specs.Classes.{zeroByte}
 use Rattle.document.specs.Printing.{digits, decimal}
-use Rattle.rows.specs.RowsLaws.{split-bool}
+use Rattle.basics.specs.Tests.{decided}
 use Rattle.decimals.specs.Decimals.{withoutLast, lastDigits, mostDigits, valueDigits, refusalDigits}
 
 -- The last digits -------------------------------------------------------------------------------------------------------
@@ -20,11 +20,6 @@ without-inner : (n x : ℕ) → withoutLast n (x / 10) ≡ withoutLast n x / 10
 unfolding withoutLast
 without-inner zero x = refl
 without-inner (suc n) x = rw (without-inner n x)
-
-pub last-length : (n x : ℕ) → length (lastDigits n x) ≡ n
-unfolding lastDigits
-last-length zero x = refl
-last-length (suc n) x = ap suc (last-length n x)
 
 last-snoc : (n x : ℕ) → lastDigits (suc n) x ≡ lastDigits n (x / 10) ++ ((zeroByte + x % 10) ∷ [])
 unfolding lastDigits withoutLast
@@ -42,7 +37,7 @@ unfolding digits
 digits-more n x h = rw (le-ltb x 10 h, digits)
 
 few-or-more : (x : ℕ) → (x < 10) ⊎ (10 ≤ x)
-few-or-more x = elim (split-bool (ltb x 10)) [ inl e ↦ inl (ltb-true x 10 e) | inr e ↦ inr (ltb-false x 10 e) ]
+few-or-more x = elim (decided (ltb x 10)) [ inl e ↦ inl (ltb-true x 10 e) | inr e ↦ inr (ltb-false x 10 e) ]
 
 digits-last : (f x : ℕ) → x < f → digits f x ≡ lastDigits (length (digits f x)) x
 unfolding lastDigits withoutLast

@@ -7,7 +7,7 @@ use mathlib.Core.List.{List, [], _∷_, _++_, append-assoc, append-nil}
 use native.Mathlib.Omega.{arith}
 use native.Mathlib.Numerals.{add-one}
 use lib.ListN.{length, getD, take, drop, set, length-append, length-take, length-drop, take-append-drop}
-use lib.Seq.{length-take-le, take-suc, take-length, append-snoc, set-split, set-append-left, take-set-lt, take-suc-set, take-at, drop-at, drop-append-add, drop-drop}
+use lib.Seq.{length-take-le, take-suc, take-length, append-snoc, set-split, set-append-left, take-set-lt, take-suc-set, take-at, drop-append-add, drop-drop}
 use Rattle.decimals.specs.Written.{Written}
 
 -- the length stays
@@ -110,15 +110,3 @@ word-turn at i word t t′ h l w =
 pub word-ends : (at i : ℕ) (word t t′ : List ℕ) → i ≤ length word → length word ≤ i → Written at i (take i word) t t′ (at + i)
     → Written at (length word) word t t′ (at + i)
 word-ends at i word t t′ h l w = let e : i ≡ length word = omega arith in rw e (rw (e, take-length) at w)
-
--- What stands in the text up to where the bytes end, and from there on.
-written-head : (at most : ℕ) (x t t′ : List ℕ) (k : ℕ) → Written at most x t t′ k → length (take at t ++ x) ≡ k
-written-head at most x t t′ k w = let f = w .fits in let e = w .ends in simp (length-append, length-take) (omega arith)
-
-pub written-before-end : (at most : ℕ) (x t t′ : List ℕ) (k : ℕ) → Written at most x t t′ k → take k t′ ≡ take at t ++ x
-written-before-end at most x t t′ k w =
-    ap (take k) (w .text) ∙ take-at (take at t ++ x) (drop (at + length x) t) k (written-head at most x t t′ k w)
-
-pub written-after-end : (at most : ℕ) (x t t′ : List ℕ) (k : ℕ) → Written at most x t t′ k → drop k t′ ≡ drop k t
-written-after-end at most x t t′ k w =
-    ap (drop k) (w .text) ∙ drop-at (take at t ++ x) (drop (at + length x) t) k (written-head at most x t t′ k w) ∙ rw (← (w .ends))

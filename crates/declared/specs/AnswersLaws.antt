@@ -1,7 +1,7 @@
 -- Laws of what the calls answer, from what `read` answers.
 -- Assumes nothing.
 use Prim.Native.Nat.{ℕ, _+_, _-_, _≤_, _<_}
-use mathlib.Core.Path.{_≡_, refl, sym, ap, _∙_}
+use mathlib.Core.Path.{_≡_, sym, ap, _∙_}
 use mathlib.Core.Bool.{Bool, true, false, not}
 use mathlib.Core.List.{List, []}
 use denote.Ref.{RefT}
@@ -10,10 +10,9 @@ use native.Mathlib.Omega.{arith}
 use borrow.Author.Tests.{not-true, not-false, lt-ltb, le-ltb}
 use Rattle.document.specs.Lists.{equal}
 use Rattle.document.specs.Limits.{mostEvents}
-use Rattle.document.specs.Refusals.{Refusal, headerDiffers, number, Answer, taken, refused, refusalOf}
-use Rattle.document.specs.RefusalsLaws.{number-some}
+use Rattle.document.specs.Refusals.{headerDiffers, number, refusalOf}
 use Rattle.document.specs.Rows.{firstRow}
-use Rattle.document.specs.Declarations.{Declared, declarations, header, eventNameOf, eventName}
+use Rattle.document.specs.Declarations.{declarations, header, eventNameOf, eventName}
 use Rattle.rows.specs.TextLaws.{row-part}
 use Rattle.rows.specs.Places.{PartAt}
 use Rattle.readings.specs.declared.Reading.{Reading}

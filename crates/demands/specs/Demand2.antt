@@ -19,8 +19,8 @@ use Rattle.grammar.specs.Parsing.{whole-faultless-parse, parse-taken-whole, par
 use Rattle.words.specs.Numbers.{reads-numbered}
 use Rattle.words.specs.Matching.{set-after-holds}
 use Rattle.words.specs.Count.{more-states}
-use Rattle.words.specs.Taken.{refused-taken, taken-injective}
 use Rattle.document.specs.DeclarationsLaws.{declarations-offset}
+use Rattle.basics.specs.Answers.{refused-taken, taken-one}
 use Rattle.words.specs.Meaning.{statesFor, tableFor, states-few, few-states, allowed-means}
 
 -- the texts that come as far as the readers
@@ -101,7 +101,7 @@ demand-allows events text p h = go (translate events text) (translated events te
     }
 
 demand-means : (events text : List ℕ) (p : Property) → translate events text ≡ taken p → (a : Allowed events text) → Means a p
-demand-means events text p h a = subst (Means a) (taken-injective (sym (demand-takes events text a) ∙ h)) (allowed-means a)
+demand-means events text p h a = subst (Means a) (taken-one (sym (demand-takes events text a) ∙ h)) (allowed-means a)
 
 demand-refuses : (events text : List ℕ) (r : Refusal) (at : ℕ) → translate events text ≡ refused r at → RefusedFor events text r at
 demand-refuses events text r at h = go (translate events text) (translated events text) h

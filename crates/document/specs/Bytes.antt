@@ -1,7 +1,7 @@
 -- Text as bytes: the words of document 01 and its example are written as they read. ASCII only, so a character is a byte.
 -- Assumes nothing.
 use Prim.Native.Nat.{ℕ}
-use Prim.Native.Char.{Char, code}
+use Prim.Native.Char.{code}
 use Prim.Native.String.{String, [] as end, _∷_ as _then_}
 use mathlib.Core.List.{List, [], _∷_}
 

@@ -2,22 +2,21 @@
 -- of the texts on. `worked-cases`, at the end, proves it by computing; P10 speaks of all words and is proved by induction.
 -- Assumes nothing.
 use Prim.Native.Nat.{ℕ, _-_}
-use mathlib.Core.Path.{_≡_, refl, sym, ap, subst, _∙_}
+use mathlib.Core.Path.{_≡_, refl}
 use mathlib.Core.Logic.{_↔_}
-use mathlib.Core.Bool.{Bool, true, false}
-use mathlib.Core.List.{List, [], _∷_, _++_, append-assoc, append-nil}
-use mathlib.Core.List as list
+use mathlib.Core.Bool.{true, false}
+use mathlib.Core.List.{List, [], _∷_, _++_}
 use lib.ListN.{take}
 use Rattle.document.specs.Bytes.{bytes}
 use Rattle.document.specs.Lists.{keepIf, every, some, everyBelow, someBelow, tabulate, equal, among, placeOf, repeated, startsWith, takeWhile, joinedUp}
 use Rattle.document.specs.Limits.{width, reportStride}
-use Rattle.document.specs.Classes.{classOf, isLetter, isDigit, isBlank, isNameByte}
-use Rattle.document.specs.Refusals.{Answer, taken}
+use Rattle.document.specs.Classes.{classOf}
+use Rattle.document.specs.Refusals.{taken}
 use Rattle.document.specs.Rows.{endsRow, firstRow, afterRow, rowsWithin, rows, stray, partsFrom, parts, partOf, fields, decimalFrom, valueOf}
 use Rattle.document.specs.Declarations.{isName, isMark, setFrom, headerRow, eventRow, eventRows, noEvents, declarations, header, nameRun}
-use Rattle.document.specs.Patterns.{Pattern, name, star, Word, Many, none, more, match, fail}
+use Rattle.document.specs.Patterns.{name, star, Word, Many, none, more, match, fail}
 use Rattle.document.specs.Tokens.{askToken, tokenAt, lexemesFrom, lexemes, offsetOf}
-use Rattle.document.specs.Reading.{marked, markedReading, closed, readName, moreAlternatives, moreRepetitions, atomOf, readAtomIn, readAlternative, readWhole, Parsed, secondAsk, readAsks, parse}
+use Rattle.document.specs.Reading.{marked, markedReading, closed, readName, moreAlternatives, moreRepetitions, atomOf, readAtomIn, readAlternative, readWhole, secondAsk, readAsks, parse}
 use Rattle.document.specs.Positions.{nullable, firsts, lasts, follows, named, nexts, move, verdictOf}
 use Rattle.document.specs.States.{stateOf, find, findAll, rowOf, goThrough, statesOf}
 use Rattle.document.specs.Property.{Property, setOf, nextState, stateFrom, stateAfter, verdict, inRange, asksFor, isAsked, leadsIn, leadsAfter, leads, hopeful}
@@ -29,6 +28,7 @@ use Rattle.document.specs.Session.{seenOf, keptOf, sessionWith, ascendin
 use Rattle.document.specs.Log.{isBadValue, valuesOf, rowEvent, stepRow, agrees, judged, rowAt, nextAt, ranTo, runFrom, run}
 use Rattle.document.specs.Printing.{digits, decimal, wordOf, refusedText, withCommas, valueText, line, reportLine, reportLines, refusedLine, rowLines, printed, programSession, output}
 use Rattle.document.specs.Example.{eventsFile, patternFile, logFile, outputFile, oneEventFile, tableOf, afterRows}
+use Rattle.document.specs.PatternsLaws.{many-append, many-one}
 
 -- the states that mix, feed and drain lead to
 unfoldable pub row : Property → ℕ → List ℕ
@@ -74,21 +74,14 @@ pub record WorkedCases : Type 0 where
   pub p10-twice : parse (bytes "a" ∷ []) (bytes "ere : a** @match") ≡ taken (record { pattern = star (star (name 1 0)); asked = 1 })
   pub p10-words : (w : List ℕ) → Word (star (star (name 1 0))) w ↔ Word (star (name 1 0)) w
 
--- a word of a* and then one of a* is a word of a*
-many-append : (P : List ℕ → Type 0) (u v : List ℕ) → Many P u → Many P v → Many P (u ++ v)
-many-append P u v none n = n
-many-append P u v (more {u = a} {v = b} x m) n = subst (Many P) (sym (append-assoc a b v)) (more x (many-append P b v m n))
-
+-- a word of (a*)* is a word of a*
 many-flat : (P : List ℕ → Type 0) (w : List ℕ) → Many (Many P) w → Many P w
 many-flat P w none = none
 many-flat P w (more {u = a} {v = b} x m) = many-append P a b x (many-flat P b m)
 
-many-one : (P : List ℕ → Type 0) (w : List ℕ) → P w → Many P w
-many-one P w x = subst (Many P) (append-nil w) (more x none)
-
 -- the definitions that the cases compute through, named once
 computing : Unit {0}
-unfolding keepIf every some everyBelow someBelow tabulate equal among placeOf repeated startsWith takeWhile joinedUp classOf isLetter isDigit isBlank isNameByte endsRow firstRow afterRow rowsWithin rows stray partsFrom parts partOf fields decimalFrom valueOf isName isMark setFrom headerRow eventRow eventRows noEvents declarations header nameRun askToken tokenAt lexemesFrom lexemes offsetOf marked markedReading closed readName moreAlternatives moreRepetitions atomOf readAtomIn readAlternative readWhole secondAsk readAsks parse nullable firsts lasts follows named nexts move verdictOf stateOf find findAll rowOf goThrough statesOf setOf nextState stateFrom stateAfter verdict inRange asksFor isAsked leadsIn leadsAfter leads hopeful propertyOf translate includes compatible join precedes bindsFrom bindsExactly zeroPast joinSeen insertKept inOrder insertSeen see moves movedFrom moved keptAfter reportsAfter numbersAt seenRoom keptRoom reportRoom seenRows keptRows keptNumbers filled seenTable keptTable seenOf keptOf sessionWith ascending zeroBetween keptCombinations rightlyKept sound firstKept lentTables start reportNumbers keeps reported outcome written withinRooms stepFrom isBadValue valuesOf rowEvent stepRow agrees judged rowAt nextAt ranTo runFrom run digits decimal wordOf refusedText withCommas valueText line reportLine reportLines refusedLine rowLines printed programSession output tableOf afterRows
+unfolding keepIf every some everyBelow someBelow tabulate equal among placeOf repeated startsWith takeWhile joinedUp classOf endsRow firstRow afterRow rowsWithin rows stray partsFrom parts partOf fields decimalFrom valueOf isName isMark setFrom headerRow eventRow eventRows noEvents declarations header nameRun askToken tokenAt lexemesFrom lexemes offsetOf marked markedReading closed readName moreAlternatives moreRepetitions atomOf readAtomIn readAlternative readWhole secondAsk readAsks parse nullable firsts lasts follows named nexts move verdictOf stateOf find findAll rowOf goThrough statesOf setOf nextState stateFrom stateAfter verdict inRange asksFor isAsked leadsIn leadsAfter leads hopeful propertyOf translate includes compatible join precedes bindsFrom bindsExactly zeroPast joinSeen insertKept inOrder insertSeen see moves movedFrom moved keptAfter reportsAfter numbersAt seenRoom keptRoom reportRoom seenRows keptRows keptNumbers filled seenTable keptTable seenOf keptOf sessionWith ascending zeroBetween keptCombinations rightlyKept sound firstKept lentTables start reportNumbers keeps reported outcome written withinRooms stepFrom isBadValue valuesOf rowEvent stepRow agrees judged rowAt nextAt ranTo runFrom run digits decimal wordOf refusedText withCommas valueText line reportLine reportLines refusedLine rowLines printed programSession output tableOf afterRows
 computing = tt
 
 pub worked-cases : WorkedCases

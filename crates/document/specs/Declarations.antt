@@ -1,14 +1,14 @@
 -- Document 01, "The declarations": names, what declarations say, their refusals 1 to 5 in the document's order, the log's
 -- header (22), and names given back as parts of the two texts.
 -- Assumes nothing.
-use Prim.Native.Nat.{ℕ, zero, suc, _+_, _^_}
-use mathlib.Core.Bool.{Bool, true, false, not, cond, _&&_, _||_}
+use Prim.Native.Nat.{ℕ, suc, _+_, _^_}
+use mathlib.Core.Bool.{Bool, false, not, cond, _&&_, _||_}
 use mathlib.Core.List.{List, [], _∷_, _++_}
 use lib.ListN.{length, getD, drop}
 use lib.Dec.{eqb, leb, ltb}
 use Rattle.document.specs.Lists.{every, among, repeated, equal, takeWhile}
 use Rattle.document.specs.Limits.{width, textBytes, nameBytes, mostEvents}
-use Rattle.document.specs.Refusals.{Refusal, textTooLong, badShape, badName, nameTwice, overLimits, headerDiffers, Answer, taken, refused, refuseIf, andThen}
+use Rattle.document.specs.Refusals.{textTooLong, badShape, badName, nameTwice, overLimits, headerDiffers, Answer, taken, refused, refuseIf, andThen}
 use Rattle.document.specs.Classes.{isLetter, isNameByte, zeroByte, oneByte, eventWord, epsilonWord}
 use Rattle.document.specs.Rows.{firstRow, afterRow, rows, stray, fields}
 

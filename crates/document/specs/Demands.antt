@@ -2,20 +2,20 @@
 -- words. Demand 1 is in the form of the calls: each is a function of every input that ends, and what it leaves on a refusal
 -- is said beside it (`leaves`, `startLeaves` of Session; `run` of Log).
 -- Assumes nothing.
-use Prim.Native.Nat.{ℕ, suc, _+_, _*_, _<_, _≤_}
+use Prim.Native.Nat.{ℕ, _<_, _≤_}
 use mathlib.Core.Path.{_≡_}
 use mathlib.Core.Logic.{_↔_}
-use mathlib.Core.Bool.{Bool, true, false, not, cond}
+use mathlib.Core.Bool.{true}
 use mathlib.Core.List.{List, [], _∷_, _++_}
 use mathlib.Core.List as list
 use lib.ListN.{length, take, drop}
-use lib.Dec.{T, leb, ltb}
+use lib.Dec.{T, ltb}
 use Rattle.document.specs.Lists.{In, Decides}
 use Rattle.document.specs.Limits.{width, textBytes, mostNames, mostStates}
 use Rattle.document.specs.Refusals.{Refusal, textTooLong, tooManyStates, noRoomForKept, Answer, taken, refused, refuseIf}
 use Rattle.document.specs.Declarations.{Declared, declarations}
 use Rattle.document.specs.Patterns.{Pattern, TotalMatching, Among}
-use Rattle.document.specs.Tokens.{Token, Lexeme, lexemes, offsetOf}
+use Rattle.document.specs.Tokens.{Token, lexemes, offsetOf}
 use Rattle.document.specs.Grammar.{alternatives, Reads, Whole, Fault, FirstFault}
 use Rattle.document.specs.Positions.{holds, setAfter, StopsAt}
 use Rattle.document.specs.States.{MoreStates}

@@ -8,6 +8,7 @@ pub mod Rows
 pub mod Declarations
 pub mod DeclarationsLaws
 pub mod Patterns
+pub mod PatternsLaws
 pub mod Tokens
 pub mod Grammar
 pub mod Reading

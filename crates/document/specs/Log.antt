@@ -2,15 +2,14 @@
 -- log held in memory.
 -- Assumes nothing.
 use Prim.Native.Nat.{ℕ, zero, suc, _+_, _-_, _*_}
-use mathlib.Core.Path.{_≡_}
 use mathlib.Core.Bool.{Bool, true, false, not, cond, _&&_, _||_}
-use mathlib.Core.List.{List, [], _∷_, _++_}
+use mathlib.Core.List.{List, [], _++_}
 use mathlib.Core.List as list
 use lib.ListN.{length, getD, take, drop, replicate}
 use lib.Dec.{leb, ltb, eqb}
 use Rattle.document.specs.Lists.{some, everyBelow, equal, placeOf}
 use Rattle.document.specs.Limits.{width, rowBytes, reportStride}
-use Rattle.document.specs.Refusals.{Refusal, badProperty, badSession, badRow, unknownEvent, badValue, wrongFields, offsetPastLog, tableDiffers, Answer, taken, refused, refuseIf, andThen}
+use Rattle.document.specs.Refusals.{badProperty, badSession, badRow, unknownEvent, badValue, wrongFields, offsetPastLog, tableDiffers, Answer, taken, refused, refuseIf, andThen}
 use Rattle.document.specs.Classes.{cr, lf, quote}
 use Rattle.document.specs.Rows.{firstRow, afterRow, rows, fields, valueOf}
 use Rattle.document.specs.Declarations.{Declared, declarations}

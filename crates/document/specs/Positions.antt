@@ -1,11 +1,11 @@
 -- Document 01, "The table": the set of numbers at which a reading of a sequence can have stopped. What is meant comes
 -- first, as statements; then the same sets as numbers that compute: bit k of a set says whether it holds k.
 -- Assumes nothing.
-use Prim.Native.Nat.{ℕ, zero, suc, _+_, _^_, _/_, _%_}
+use Prim.Native.Nat.{ℕ, zero, suc, _^_, _/_, _%_}
 use mathlib.Core.Path.{_≡_}
 use mathlib.Core.Logic.{_⊎_}
 use mathlib.Core.Bool.{Bool, true, false, cond, not, _&&_, _||_}
-use mathlib.Core.List.{List, [], _∷_, _++_}
+use mathlib.Core.List.{List, [], _∷_}
 use lib.Dec.{eqb}
 use lib.Bits.{bitOr, bitAnd}
 use Rattle.document.specs.Limits.{mostNames}

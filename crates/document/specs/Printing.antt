@@ -1,11 +1,11 @@
 -- Document 01, "The program and its example": the bytes that the watch program prints for its three files.
 -- Assumes nothing.
 use Prim.Native.Nat.{ℕ, zero, suc, _+_, _*_, _/_, _%_}
-use mathlib.Core.Bool.{Bool, true, false, cond}
+use mathlib.Core.Bool.{true, false, cond}
 use mathlib.Core.List.{List, [], _∷_, _++_}
 use mathlib.Core.List as list
-use lib.ListN.{length, getD, take, drop, replicate}
-use lib.Dec.{leb, ltb, eqb}
+use lib.ListN.{getD, take, drop, replicate}
+use lib.Dec.{ltb, eqb}
 use Rattle.document.specs.Bytes.{bytes}
 use Rattle.document.specs.Lists.{joinedUp}
 use Rattle.document.specs.Limits.{mostSeen, mostKept, seenStride, keptStride, reportStride, programReports, width}
@@ -16,8 +16,7 @@ use Rattle.document.specs.Declarations.{Declared, declarations, header}
 use Rattle.document.specs.Patterns.{match}
 use Rattle.document.specs.Property.{Property}
 use Rattle.document.specs.Translate.{translate}
-use Rattle.document.specs.Tables.{numbersAt}
-use Rattle.document.specs.Session.{Session, Happened, start}
+use Rattle.document.specs.Session.{Session, start}
 use Rattle.document.specs.Log.{stepRow}
 
 -- a number in decimal, of at most n digits more

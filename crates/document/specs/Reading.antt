@@ -2,10 +2,10 @@
 -- tokens that are left, or refuses at the first of those that are left; so the lowest offset comes first by itself.
 -- Assumes nothing.
 use Prim.Native.Nat.{ℕ, zero, suc, _+_, _*_}
-use mathlib.Core.Bool.{Bool, true, false, not, _&&_}
+use mathlib.Core.Bool.{Bool, true, false}
 use mathlib.Core.List.{List, [], _∷_}
 use lib.ListN.{length}
-use lib.Dec.{eqb, leb, ltb}
+use lib.Dec.{eqb, ltb}
 use Rattle.document.specs.Lists.{equal, placeOf}
 use Rattle.document.specs.Limits.{mostNames, mostOpen}
 use Rattle.document.specs.Refusals.{Refusal, notOfGrammar, undeclaredEvent, tooManyNames, tooDeep, Answer, taken, refused}
@@ -126,18 +126,18 @@ pub record Parsed : Type 0 where
   pub asked : ℕ
 
 -- `@match`, `@fail` or both, each once, in either order
-unfoldable pub secondAsk : List ℕ → Pattern → ℕ → List Lexeme → Answer Parsed
-secondAsk text r v [] = taken (record { pattern = r; asked = v })
-secondAsk text r v (x ∷ []) =
+unfoldable pub secondAsk : Pattern → ℕ → List Lexeme → Answer Parsed
+secondAsk r v [] = taken (record { pattern = r; asked = v })
+secondAsk r v (x ∷ []) =
     elim (eqb (v + askOf (x .token)) 3) [ true ↦ taken (record { pattern = r; asked = 3 }) | false ↦ refused notOfGrammar (x .at) ]
-secondAsk text r v (x ∷ y ∷ more) =
+secondAsk r v (x ∷ y ∷ more) =
     elim (eqb (v + askOf (x .token)) 3) [ true ↦ refused notOfGrammar (y .at) | false ↦ refused notOfGrammar (x .at) ]
 
 unfoldable pub readAsks : List ℕ → Reading → Answer Parsed
 readAsks text (stopped q left) = refused q (offsetOf text left)
 readAsks text (read r [] n) = refused notOfGrammar (length text)
 readAsks text (read r (x ∷ more) n) =
-    elim (ltb 0 (askOf (x .token))) [ true ↦ secondAsk text r (askOf (x .token)) more | false ↦ refused notOfGrammar (x .at) ]
+    elim (ltb 0 (askOf (x .token))) [ true ↦ secondAsk r (askOf (x .token)) more | false ↦ refused notOfGrammar (x .at) ]
 
 -- "`ere`, `:`, the pattern, then `@match`, `@fail` or both"
 unfoldable pub parse : List (List ℕ) → List ℕ → Answer Parsed

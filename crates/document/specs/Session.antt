@@ -2,15 +2,15 @@
 -- the session check (refusal 12). Each answers for every input; on a refusal every lent number stays (`leaves`).
 -- Values and combinations in these calls are four numbers of 32 bits: the calls' types say so, and no definition says it again.
 -- Assumes nothing.
-use Prim.Native.Nat.{ℕ, zero, suc, _+_, _-_, _*_}
-use mathlib.Core.Bool.{Bool, true, false, not, cond, _&&_, _||_}
+use Prim.Native.Nat.{ℕ, _+_, _-_, _*_}
+use mathlib.Core.Bool.{Bool, true, false, not, cond, _&&_}
 use mathlib.Core.List.{List, [], _∷_, _++_}
 use mathlib.Core.List as list
-use lib.ListN.{length, getD, take, drop}
+use lib.ListN.{length, take, drop}
 use lib.Dec.{leb, ltb, eqb}
-use Rattle.document.specs.Lists.{every, everyBelow, equal, joinedUp, keepIf}
+use Rattle.document.specs.Lists.{every, equal, joinedUp}
 use Rattle.document.specs.Limits.{width, seenStride, keptStride}
-use Rattle.document.specs.Refusals.{Refusal, badProperty, badSession, noSuchEvent, wrongValues, noRoomForSeen, noRoomForKept, noRoomForReports, badLookup, Answer, taken, refused, refuseIf, andThen}
+use Rattle.document.specs.Refusals.{badProperty, badSession, noSuchEvent, wrongValues, noRoomForSeen, noRoomForKept, noRoomForReports, badLookup, Answer, taken, refused, refuseIf}
 use Rattle.document.specs.Property.{Property, inRange, nextState, setOf, verdict, isAsked, hopeful}
 use Rattle.document.specs.Combinations.{emptyOf, precedes, bindsExactly, zeroPast}
 use Rattle.document.specs.OneEvent.{Kept, joinSeen, see, keptAfter, reportsAfter}

@@ -1,7 +1,7 @@
 -- Document 01, "The table": the distinct sets over all sequences, numbered "as found, going through states in number
 -- order and, within one, events in number order".
 -- Assumes nothing.
-use Prim.Native.Nat.{ℕ, zero, suc, _+_, _*_}
+use Prim.Native.Nat.{ℕ, zero, suc}
 use mathlib.Core.Path.{_≡_}
 use mathlib.Core.Bool.{Bool, true, false}
 use mathlib.Core.List.{List, [], _∷_, _++_}

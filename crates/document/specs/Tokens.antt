@@ -3,7 +3,7 @@
 use Prim.Native.Nat.{ℕ, zero, suc, _+_, _-_}
 use mathlib.Core.Bool.{Bool, true, false, cond, _&&_}
 use mathlib.Core.List.{List, [], _∷_}
-use lib.ListN.{length, drop}
+use lib.ListN.{length}
 use lib.Dec.{eqb, leb}
 use Rattle.document.specs.Lists.{startsWith, equal}
 use Rattle.document.specs.Classes.{classOf, letter, opening, plus, atSign, isBlank, matchWord, failWord}

@@ -15,15 +15,11 @@ use Rattle.document.specs.Log.{rowEvent}
 use Rattle.rows.specs.Split.{upToComma}
 use Rattle.rows.specs.SplitLaws.{walk-begins, walk-field}
 use Rattle.readings.specs.Readings.{namesAt}
-use Rattle.slices.specs.ListsLaws.{length-tabulate}
+use Rattle.readings.specs.PlacesLaws.{names-length}
 use Rattle.entries.specs.declared.Entry.{Entry}
 use Rattle.entries.specs.declared.Values.{Values}
 use Rattle.entries.specs.Entries.{isBarred, valuesSaid, declaredAt, entryOf}
 use Rattle.entries.specs.EntriesLaws.{refusedEntry, entry-long, entry-fields, entry-unknown, entry-bad, entry-wrong, entry-right}
-
-names-count : (text : List ℕ) (n : ℕ) (starts sizes : List ℕ) → length (namesAt text n starts sizes) ≡ n
-unfolding namesAt
-names-count text n starts sizes = length-tabulate n (λ k. take (getD sizes k 0) (drop (getD starts k 0) text))
 
 -- the event's name is the part of the row up to its first comma
 first-field : (row : List ℕ) (end : ℕ) → end ≡ 0 + upToComma (drop 0 row) → take (end - 0) (drop 0 row) ≡ field row 0
@@ -46,7 +42,7 @@ module _ (text starts sizes sets row : List ℕ) (events n : ℕ) where
       row-unknown r e g =
           entry-unknown (declaredAt text starts sizes sets events n) row n (length-replicate n []) l m q c
           (take (end - 0) (drop 0 row)) (first-field row end f) event at r e
-          (rw (names-count text events starts sizes) g)
+          (rw (names-length text events starts sizes) g)
 
       module _ (g : event < events) (v : Values) (said : v ≡ valuesSaid (drop 1 (fields row))) where
         pub row-bad : (r : Entry) → r ≡ refusedEntry 20 → v .bad ≡ true → r ≡ entryOf (rowEvent (declaredAt text starts sizes sets events n) row)
@@ -54,7 +50,7 @@ module _ (text starts sizes sets row : List ℕ) (events n : ℕ) where
         row-bad r e u =
             entry-bad (declaredAt text starts sizes sets events n) row n (length-replicate n []) l m q c
             (take (end - 0) (drop 0 row)) (first-field row end f) event at
-            (rw (names-count text events starts sizes) g) v said r e u
+            (rw (names-length text events starts sizes) g) v said r e u
 
         module _ (u : v .bad ≡ false) (set : ℕ) (w : set ≡ getD sets event 0) (x : Bool) (y : x ≡ bindsExactly set (v .values)) where
           binds : x ≡ bindsExactly (getD (take events sets) event 0) (v .values)
@@ -65,7 +61,7 @@ module _ (text starts sizes sets row : List ℕ) (events n : ℕ) where
           row-wrong r e z =
               entry-wrong (declaredAt text starts sizes sets events n) row n (length-replicate n []) l m q c
               (take (end - 0) (drop 0 row)) (first-field row end f) event at
-              (rw (names-count text events starts sizes) g) v said u x binds r e z
+              (rw (names-length text events starts sizes) g) v said u x binds r e z
 
           pub row-right : not x ≡ false → _≡_ {A = Entry} (record { refusal = 0; event = event; values = v .values })
               (entryOf (rowEvent (declaredAt text starts sizes sets events n) row))
@@ -73,4 +69,4 @@ module _ (text starts sizes sets row : List ℕ) (events n : ℕ) where
           row-right z =
               entry-right (declaredAt text starts sizes sets events n) row n (length-replicate n []) l m q c
               (take (end - 0) (drop 0 row)) (first-field row end f) event at
-              (rw (names-count text events starts sizes) g) v said u x binds z
+              (rw (names-length text events starts sizes) g) v said u x binds z

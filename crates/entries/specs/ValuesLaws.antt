@@ -1,6 +1,6 @@
 -- Laws of the loops over a row's bytes and values.
 -- Assumes nothing.
-use Prim.Native.Nat.{ℕ, zero, suc, _+_, _-_, _≤_, _<_, min}
+use Prim.Native.Nat.{ℕ, zero, suc, _+_, _≤_, _<_, min}
 use mathlib.Core.Path.{_≡_, refl, sym, ap, _∙_}
 use mathlib.Core.Logic.{inl, inr}
 use mathlib.Core.Bool.{Bool, true, false, not, cond, _&&_}
@@ -17,8 +17,10 @@ use Rattle.document.specs.Limits.{width}
 use Rattle.document.specs.Classes.{cr, lf, quote, comma, zeroByte}
 use Rattle.document.specs.Rows.{fields, valueOf}
 use Rattle.document.specs.Log.{isBadValue, valuesOf}
+use Rattle.basics.specs.Tests.{decided}
+use Rattle.basics.specs.Lists.{zero-at}
 use Rattle.entries.specs.Entries.{isBarred}
-use Rattle.rows.specs.RowsLaws.{some-over, some-found, some-goes-on, split-bool}
+use Rattle.rows.specs.RowsLaws.{some-over, some-found, some-goes-on}
 use Rattle.rows.specs.FieldsInTurn.{commas, commas-here, commas-later, commas-over, fields-count}
 
 -- A byte that no row may hold.
@@ -119,11 +121,6 @@ pub record Takes (fs : List (List ℕ)) (values : List ℕ) (k : ℕ) : Type 0 w
   pub rest : (j : ℕ) → k ≤ j → getD values j 0 ≡ 0
   pub fine : some isBadValue (drop k fs) ≡ some isBadValue fs
 
-zero-at : (n k : ℕ) → _≡_ {A = ℕ} (getD (replicate n 0) k 0) 0
-zero-at zero k = refl
-zero-at (suc n) zero = refl
-zero-at (suc n) (suc k) = zero-at n k
-
 pub takes-begin : (fs : List (List ℕ)) → Takes fs (replicate width 0) 0
 takes-begin fs = record { long = refl; done = λ j h. absurd (omega arith); rest = λ j h. zero-at width j; fine = refl }
 
@@ -140,7 +137,7 @@ pub takes-more : (fs : List (List ℕ)) (values : List ℕ) (k v : ℕ) → Take
 unfolding some
 takes-more fs values k v t h l e q = record {
   long = length-set values k v ∙ t .long;
-  done = λ j m. elim (split-bool (eqb j k)) [
+  done = λ j m. elim (decided (eqb j k)) [
     | inl s ↦ let z : j ≡ k = eqb-true j k s in rw (z, getD-set-same values k v 0 (let a = t .long in omega arith)) q
     | inr s ↦ let n = eqb-false j k s in rw (getD-set-other values k j v 0 n) (t .done j (omega arith))
   ];
@@ -176,7 +173,7 @@ takes-all fs values k t e l =
     min-is n h = omega arith
 
     at : (j : ℕ) → getD (list.map valueOf fs ++ replicate width 0) j 0 ≡ getD values j 0
-    at j = elim (split-bool (ltb j k)) [
+    at j = elim (decided (ltb j k)) [
       | inl s ↦
           let h = ltb-true j k s in
           List·getD-append (list.map valueOf fs) (replicate width 0) 0 j (rw (map-length fs) (omega arith)) ∙ getD-map fs j (omega arith) ∙ sym (t .done j h)

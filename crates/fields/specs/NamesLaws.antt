@@ -11,11 +11,13 @@ use lib.ListN.{length, getD, take, drop, length-drop}
 use lib.Dec.{eqb, leb, eqb·suc-suc, eqb·zero-suc}
 use native.Mathlib.Omega.{arith}
 use borrow.Author.Tests.{le-leb, lt-leb, not-true, not-false, ne-eqb}
-use Rattle.document.specs.Lists.{every, among, equal, takeWhile}
+use Rattle.document.specs.Lists.{every, equal, takeWhile}
 use Rattle.document.specs.Limits.{nameBytes}
-use Rattle.document.specs.Classes.{letter, isLetter, isNameByte, zeroByte, oneByte}
+use Rattle.document.specs.Classes.{isLetter, isNameByte, zeroByte, oneByte}
 use Rattle.document.specs.Declarations.{isName, isMark, nameRun, nameAt}
-use Rattle.rows.specs.RowsLaws.{drop-here, drop-end, split-bool}
+use Rattle.basics.specs.Tests.{decided}
+use Rattle.basics.specs.Lists.{run-within, run-part}
+use Rattle.rows.specs.RowsLaws.{drop-here, drop-end}
 use Rattle.rows.specs.Places.{PartAt, placeFrom}
 
 -- the longest part at the start whose members pass a test: at none, at one that passes, at one that does not
@@ -46,27 +48,11 @@ pub name-end-over : (s : List ℕ) (at i : ℕ) → i + length (takeWhile isName
     → length s ≤ i → i ≡ at + length (takeWhile isNameByte (drop at s))
 name-end-over s at i q h = let z = rw (run-over isNameByte s i h) at q in omega arith
 
--- a run is the part of the text that is as long as it, and passes everywhere if it is the whole
-run-within : (p : ℕ → Bool) (t : List ℕ) → length (takeWhile p t) ≤ length t
-unfolding takeWhile
-run-within p [] = omega arith
-run-within p (b ∷ t) = elim (split-bool (p b)) [
-  | inl e ↦ rw (e, takeWhile) (let k = run-within p t in omega arith)
-  | inr e ↦ rw (e, takeWhile) (omega arith)
-]
-
-run-part : (p : ℕ → Bool) (t : List ℕ) → take (length (takeWhile p t)) t ≡ takeWhile p t
-unfolding takeWhile
-run-part p [] = refl
-run-part p (b ∷ t) = elim (split-bool (p b)) [
-  | inl e ↦ rw (e, takeWhile, run-part p t)
-  | inr e ↦ rw (e, takeWhile)
-]
-
+-- a run passes everywhere if it is the whole
 run-all : (p : ℕ → Bool) (t : List ℕ) → eqb (length (takeWhile p t)) (length t) ≡ every p t
 unfolding takeWhile every
 run-all p [] = refl
-run-all p (b ∷ t) = elim (split-bool (p b)) [
+run-all p (b ∷ t) = elim (decided (p b)) [
   | inl e ↦ rw (e, takeWhile) (eqb·suc-suc (length (takeWhile p t)) (length t) ∙ run-all p t)
   | inr e ↦ rw (e, takeWhile) (eqb·zero-suc (length t))
 ]

@@ -13,9 +13,11 @@ use Rattle.document.specs.Limits.{width, keptStride}
 use Rattle.document.specs.Combinations.{includes}
 use Rattle.document.specs.OneEvent.{Kept, inOrder, moves, movedFrom, moved, keptAfter, reportsAfter}
 use Rattle.document.specs.Tables.{seenRows}
-use Rattle.slices.specs.TestsLaws.{either}
-use Rattle.tables.specs.Tables.{rowAt, keptFrom}
-use Rattle.tables.specs.OrderLaws.{keepIf-append, length-inOrder}
+use Rattle.basics.specs.Tests.{decided}
+use Rattle.slices.specs.ListsLaws.{keepIf-append}
+use Rattle.slices.specs.AscendingLaws.{length-inOrder}
+use Rattle.slices.specs.TablesLaws.{keptAt}
+use Rattle.tables.specs.Tables.{keptFrom}
 use Rattle.tables.specs.TablesLaws.{kept-more}
 use Rattle.moves.specs.Steps.{one, stepOf, stateIn}
 use Rattle.moves.specs.Ready.{Ready}
@@ -27,7 +29,7 @@ use Rattle.foreseen.specs.declared.Weight.{Weight}
 length-keepIf-more : {A : Type 0} (p : A → Bool) (l : List A) (x : A) → length (keepIf p (l ++ (x ∷ []))) ≡ length (keepIf p l) + one (p x)
 unfolding keepIf
 length-keepIf-more p l x =
-    rw (keepIf-append p l (x ∷ []), length-append (keepIf p l) (keepIf p (x ∷ []))) (elim (either (p x)) [ inl h ↦ rw h | inr h ↦ rw h ])
+    rw (keepIf-append p l (x ∷ []), length-append (keepIf p l) (keepIf p (x ∷ []))) (elim (decided (p x)) [ inl h ↦ rw h | inr h ↦ rw h ])
 
 module _ (step : ℕ → ℕ → ℕ) (e : ℕ) (b : List ℕ) (seen : List (List ℕ)) (ob : length b ≡ width) where
   abbrev may : Kept → Bool
@@ -50,8 +52,8 @@ module _ (step : ℕ → ℕ → ℕ) (e : ℕ) (b : List ℕ) (seen : List (Lis
           keepIf-append keeps (moved width step e b seen l) (consIf (may k) (to k) []),
           length-append (keepIf keeps (moved width step e b seen l)) (keepIf keeps (consIf (may k) (to k) [])),
         )
-        (elim (either (may k)) [
-          | inl m ↦ elim (either (keeps (to k))) [ inl t ↦ rw (m, t) | inr t ↦ rw (m, t) ]
+        (elim (decided (may k)) [
+          | inl m ↦ elim (decided (keeps (to k))) [ inl t ↦ rw (m, t) | inr t ↦ rw (m, t) ]
           | inr m ↦ rw m
         ])
 
@@ -97,13 +99,13 @@ weight-small next hopes asks e b seen k w q =
 
 module _ (next : List ℕ) (hopes asks states e n m i : ℕ) (b seen kept : List ℕ) (fresh : Bool) (keeps reported : ℕ) (w : Weight) where
   pub tallied-turn : Ready next states e n m b seen kept fresh → Tallied next hopes asks e n i b seen kept keeps reported
-      → w ≡ weightOf next hopes asks e b (seenRows n seen) (rowAt kept (i * keptStride))
+      → w ≡ weightOf next hopes asks e b (seenRows n seen) (keptAt width kept (i * keptStride))
       → Tallied next hopes asks e n (i + 1) b seen kept (keeps + w .kept) (reported + w .reported)
   unfolding tallyOf weightOf
   tallied-turn u t q =
-      let s = weight-small next hopes asks e b (seenRows n seen) (rowAt kept (i * keptStride)) w q in
+      let s = weight-small next hopes asks e b (seenRows n seen) (keptAt width kept (i * keptStride)) w q in
       let ob = u .binds .wide in
-      let k = rowAt kept (0 + i * keptStride) in
+      let k = keptAt width kept (0 + i * keptStride) in
       let z : 0 + i * keptStride ≡ i * keptStride = zero-add (i * keptStride) in
       let a = kept-count (stepOf next) e b (seenRows n seen) ob (stateIn hopes) (keptFrom i kept 0) k in
       let r = report-count (stepOf next) e b (seenRows n seen) ob (stateIn asks) (keptFrom i kept 0) k in

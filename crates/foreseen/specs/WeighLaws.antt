@@ -12,7 +12,7 @@ use Rattle.document.specs.Positions.{holds}
 use Rattle.document.specs.Combinations.{includes}
 use Rattle.document.specs.OneEvent.{Kept, moves, movedFrom}
 use Rattle.document.specs.Tables.{numbersAt, seenRows}
-use Rattle.tables.specs.Tables.{rowAt}
+use Rattle.slices.specs.TablesLaws.{keptAt}
 use Rattle.moves.specs.Steps.{one, stepOf, stateIn, movesAt}
 use Rattle.moves.specs.Ready.{RowReady}
 use Rattle.moves.specs.MovesLaws.{in-place-moves}
@@ -34,7 +34,7 @@ moved-weight-small hopes asks to w e = let q : w .kept ≡ one (holds hopes to) 
 module _ (next : List ℕ) (states e n i : ℕ) (b seen kept : List ℕ) (fresh : Bool) (u : RowReady next states e n i b seen kept fresh) where
   module _ (hopes asks : ℕ) (k : List ℕ) (f : Bool) (qk : k ≡ numbersAt width kept (i * keptStride)) (qf : f ≡ includes k b) where
     abbrev row : Kept
-    row = rowAt kept (i * keptStride)
+    row = keptAt width kept (i * keptStride)
 
     row-moves : (g : Bool) → g ≡ movesAt b (seenRows n seen) k → moves width (stepOf next) e b (seenRows n seen) row ≡ g
     row-moves g q = moves-at (stepOf next) e b (seenRows n seen) row ∙ ap (movesAt b (seenRows n seen)) (sym qk) ∙ sym q

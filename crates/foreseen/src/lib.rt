@@ -4,9 +4,10 @@
 ghost use Prim.Native.Nat.{_*_, _<_};
 ghost use mathlib.Core.Path.{_≡_};
 ghost use lib.ListN.{drop};
-ghost use Rattle.document.specs.Limits.{keptStride, mostStates};
+ghost use Rattle.document.specs.Limits.{width, keptStride, mostStates};
 ghost use Rattle.document.specs.Tables.{seenRows, reportRoom};
-ghost use Rattle.tables.specs.Tables.{rowAt, keptFrom};
+ghost use Rattle.slices.specs.TablesLaws.{keptAt};
+ghost use Rattle.tables.specs.Tables.{keptFrom};
 ghost use Rattle.moves.specs.Ready.{Ready, RowReady, Steady};
 ghost use Rattle.foreseen.specs.Foreseen.{weightOf, movedWeight, tallyOf, roomRefusal, foreseenOf};
 use combos::Combination;
@@ -61,7 +62,7 @@ fn weigh(
     fresh: bool,
 ) -> Weight
     requires { ⌜ RowReady (now next) (known .states) e n i b (now seen) (now kept) fresh ⌝ }
-    ensures { λ r. ⌜ r ≡ weightOf (now (next .entry)) (known .hopeful) (known .asked) e b (seenRows n (now (seen .entry))) (rowAt (now (kept .entry)) (i * keptStride)) ⌝ }
+    ensures { λ r. ⌜ r ≡ weightOf (now (next .entry)) (known .hopeful) (known .asked) e b (seenRows n (now (seen .entry))) (keptAt width (now (kept .entry)) (i * keptStride)) ⌝ }
 {
     let at = i * KEPT_STRIDE;
     let k = combos::row_at(kept, at);

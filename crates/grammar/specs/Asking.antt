@@ -12,7 +12,7 @@ use Rattle.document.specs.Refusals.{Refusal, notOfGrammar, Answer, taken, refus
 use Rattle.document.specs.Tokens.{Token, ask, Lexeme, offsetOf}
 use Rattle.document.specs.Grammar.{alternatives, Reads, Asks, just-match, just-fail, match-fail, fail-match}
 use Rattle.document.specs.Reading.{Reading, read, stopped, askOf, Parsed, secondAsk, readAsks}
-use Rattle.grammar.specs.Words.{not-both}
+use Rattle.basics.specs.Tests.{not-both}
 use Rattle.grammar.specs.Sorts.{View, is-name, is-opening, is-closing, is-bar, is-star, is-plus, is-match, is-fail, is-other, view}
 use Rattle.grammar.specs.Automaton.{State, expecting, after, matchAsked, failAsked, bothAsked, stuck, step, askedAt}
 use Rattle.grammar.specs.Judge.{fine, passes, stops, endedWith, limitCheck, judge}
@@ -75,17 +75,17 @@ module _ (declared : List (List ℕ)) (text : List ℕ) where
     pub turn : (t : Token) → Proper t → (t ≡ ask u) ⊎ ((eqb (v + askOf t) 3 ≡ false) × (step s t ≡ stuck))
 
   second-agrees : {v u : ℕ} {s : State} → Turn v u s → (ls more : List Lexeme) (r : Pattern) (m : ℕ) → First v s ls more r m → AllProper more
-      → Answered ls (secondAsk text r v more)
+      → Answered ls (secondAsk r v more)
   unfolding secondAsk offsetOf
   second-agrees {v} T ls [] r m h p = first-taken h v (T .one) (T .ended)
   second-agrees {v} {u} {s} T ls (y ∷ []) r m h p = go (T .turn (y .token) (p .0))
     where
-      go : (y .token ≡ ask u) ⊎ ((eqb (v + askOf (y .token)) 3 ≡ false) × (step s (y .token) ≡ stuck)) → Answered ls (secondAsk text r v (y ∷ []))
+      go : (y .token ≡ ask u) ⊎ ((eqb (v + askOf (y .token)) 3 ≡ false) × (step s (y .token) ≡ stuck)) → Answered ls (secondAsk r v (y ∷ []))
       go (inl e) = rw (e, T .sum, secondAsk) (first-taken h 3 (rw e (T .both)) (rw (e, T .next, T .unlimited m (ask u))))
       go (inr f) = rw (f .0, secondAsk) (first-refused h (y ∷ []) (rw (f .1)))
   second-agrees {v} {u} {s} T ls (y ∷ z ∷ rest) r m h p = go (T .turn (y .token) (p .0))
     where
-      go : (y .token ≡ ask u) ⊎ ((eqb (v + askOf (y .token)) 3 ≡ false) × (step s (y .token) ≡ stuck)) → Answered ls (secondAsk text r v (y ∷ z ∷ rest))
+      go : (y .token ≡ ask u) ⊎ ((eqb (v + askOf (y .token)) 3 ≡ false) × (step s (y .token) ≡ stuck)) → Answered ls (secondAsk r v (y ∷ z ∷ rest))
       go (inl e) = rw (e, T .sum, secondAsk) (first-refused h (z ∷ rest) (rw (e, T .next, T .unlimited m (ask u))))
       go (inr f) = rw (f .0, secondAsk) (first-refused h (y ∷ z ∷ rest) (rw (f .1)))
 

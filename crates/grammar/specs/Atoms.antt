@@ -16,7 +16,7 @@ use Rattle.document.specs.Patterns.{epsilon}
 use Rattle.document.specs.Tokens.{Token, word, mark, ask, noToken, Lexeme}
 use Rattle.document.specs.Grammar.{alternatives, atoms, Reads, event, empty, grouped}
 use Rattle.document.specs.Reading.{Reading, read, stopped, closed, readName, atomOf, readAtomIn}
-use Rattle.grammar.specs.Words.{decided, not-both, equal-same, equal-differs}
+use Rattle.basics.specs.Tests.{decided, not-both, equal-same, equal-differs}
 use Rattle.grammar.specs.Sorts.{Other, View, is-name, is-opening, is-closing, is-bar, is-star, is-plus, is-match, is-fail, is-other, view}
 use Rattle.grammar.specs.Agree.{tokens-append, Got, Agrees}
 

@@ -14,7 +14,7 @@ use Rattle.document.specs.Lists.{equal}
 use Rattle.document.specs.Patterns.{Pattern}
 use Rattle.document.specs.Tokens.{Token, word, mark, isMarkOf, isWordOf}
 use Rattle.document.specs.Grammar.{Kind, Reads, one-sequence, either, one-repetition, beside, one-atom, starred, plussed, event, empty, grouped, Asks, just-match, just-fail, match-fail, fail-match, Whole, Dead}
-use Rattle.grammar.specs.Words.{not-both}
+use Rattle.basics.specs.Tests.{not-both}
 use Rattle.grammar.specs.Sorts.{Sort, aName, opens, closes, bars, repeats, asksMatch, asksFail, others, sortOf}
 
 -- before `ere`; before `:`; where an atom must stand, and after a repetition, with the number of open parentheses; after one

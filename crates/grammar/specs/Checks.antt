@@ -16,7 +16,8 @@ use Rattle.document.specs.Lists.{keepIf, equal, placeOf}
 use Rattle.document.specs.Refusals.{Refusal, notOfGrammar, number}
 use Rattle.document.specs.Tokens.{Token, word, mark, ask, noToken}
 use Rattle.document.specs.Grammar.{openIn}
-use Rattle.grammar.specs.Words.{decided, not-both, equal-same, equal-differs, in-place, place-in}
+use Rattle.basics.specs.Tests.{decided, not-both, equal-same, equal-differs}
+use Rattle.grammar.specs.Words.{in-place, place-in}
 use Rattle.grammar.specs.Sorts.{View, is-name, is-opening, is-closing, is-bar, is-star, is-plus, is-match, is-fail, is-other, view}
 use Rattle.grammar.specs.Automaton.{State, atStart, atColon, expecting, after, matchAsked, failAsked, bothAsked, stuck, step}
 use Rattle.grammar.specs.Viable.{Inside, Viable}

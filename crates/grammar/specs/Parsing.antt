@@ -13,7 +13,7 @@ use lib.Dec.{eqb}
 use Rattle.document.specs.Patterns.{Pattern}
 use Rattle.document.specs.Refusals.{Refusal, notOfGrammar, undeclaredEvent, tooManyNames, tooDeep, number, Answer, taken, refused}
 use Rattle.document.specs.Tokens.{Token, lexemes, offsetOf}
-use Rattle.document.specs.Grammar.{Asks, just-match, just-fail, match-fail, fail-match, Whole, Dead, Fault, dead, unfinished, undeclared, oneTooMany, oneTooDeep, FirstFault}
+use Rattle.document.specs.Grammar.{Whole, Dead, Fault, dead, unfinished, undeclared, oneTooMany, oneTooDeep, FirstFault}
 use Rattle.document.specs.Reading.{Parsed, parse}
 use Rattle.document.specs.Demands.{tokensOf}
 use Rattle.grammar.specs.Complete.{Completed, complete-start, dead-or-completed}
@@ -73,12 +73,6 @@ module _ (declared : List (List ℕ)) where
         go (dead l e) = inl (l, e)
         go (unfinished e) = inr (refl, e)
 
-  asks-three : {us : List Token} {a : ℕ} → Asks us a → (1 ≤ a) × (a ≤ 3)
-  asks-three just-match = omega arith
-  asks-three just-fail = omega arith
-  asks-three match-fail = omega arith
-  asks-three fail-match = omega arith
-
   -- `parse` -------------------------------------------------------------------------------------------------------------
   module _ (text : List ℕ) where
     passed : {t : Parsed} → parse declared text ≡ taken t → Passed declared text (lexemes text) t
@@ -93,10 +87,6 @@ module _ (declared : List (List ℕ)) where
     pub parse-taken-faultless : {t : Parsed} → parse declared text ≡ taken t → (i : ℕ) (q : Refusal) → Fault declared (tokensOf text) i q → ⊥
     unfolding tokensOf
     parse-taken-faultless e = rw (passed e .judged) at (judge-text declared (lexemes text))
-
-    -- and asks for match, for fail or for both
-    pub parse-taken-asked : {t : Parsed} → parse declared text ≡ taken t → (1 ≤ t .asked) × (t .asked ≤ 3)
-    parse-taken-asked e = asks-three (parse-taken-whole e .wants)
 
     -- what is refused is refused for the first fault, at the offset of its token or at the text's length
     pub record RefusedAt (q : Refusal) (at : ℕ) : Type 0 where

@@ -12,7 +12,7 @@ use Rattle.document.specs.Lists.{equal, placeOf}
 use Rattle.document.specs.Patterns.{Pattern, epsilon, name, star, plus}
 use Rattle.document.specs.Tokens.{Token, word, mark}
 use Rattle.document.specs.Grammar.{Kind, alternatives, repetitions, atoms, Reads, one-sequence, either, one-repetition, beside, one-atom, starred, plussed, event, empty, grouped}
-use Rattle.grammar.specs.Words.{decided, equal-same, equal-differs}
+use Rattle.basics.specs.Tests.{decided, equal-same, equal-differs}
 
 module _ (declared : List (List ℕ)) where
   -- ts is a phrase of the kind after lo event names, for some pattern

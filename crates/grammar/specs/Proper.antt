@@ -11,7 +11,7 @@ use Rattle.document.specs.Classes.{opening, plus, letter, atSign, classOf, isBl
 use Rattle.document.specs.Lists.{startsWith}
 use Rattle.document.specs.Tokens.{Token, word, mark, ask, noToken, Lexeme, Sized, askToken, tokenAt, lexemesFrom, lexemes}
 use Rattle.document.specs.Reading.{askOf}
-use Rattle.grammar.specs.Words.{decided}
+use Rattle.basics.specs.Tests.{decided}
 use Rattle.grammar.specs.Sorts.{sortOf, Other}
 
 -- a token that asks for a verdict asks for match or for fail

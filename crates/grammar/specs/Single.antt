@@ -14,7 +14,7 @@ use Rattle.document.specs.Lists.{equal, placeOf}
 use Rattle.document.specs.Patterns.{Pattern, epsilon, name, alternative, sequence, star, plus}
 use Rattle.document.specs.Tokens.{Token, word, mark, ask, noToken}
 use Rattle.document.specs.Grammar.{Kind, alternatives, sequences, repetitions, atoms, Reads, one-sequence, either, one-repetition, beside, one-atom, starred, plussed, event, empty, grouped, Asks, just-match, just-fail, match-fail, fail-match, Whole}
-use Rattle.grammar.specs.Words.{decided, equal-same}
+use Rattle.basics.specs.Tests.{decided, equal-same}
 use Rattle.grammar.specs.Automaton.{whole-asked}
 
 -- what one level of parentheses holds so far: nothing in the sequence that is begun, or a last repetition in it. The first

@@ -10,7 +10,7 @@ use borrow.Author.Tests.{eqb-true}
 use Rattle.document.specs.Classes.{opening, closing}
 use Rattle.document.specs.Classes as byte
 use Rattle.document.specs.Tokens.{Token, word, mark, ask, noToken, isMarkOf, beginsAtom}
-use Rattle.grammar.specs.Words.{decided}
+use Rattle.basics.specs.Tests.{decided}
 
 pub data Sort : Type 0 where
   aName opens closes bars repeats asksMatch asksFail others : Sort

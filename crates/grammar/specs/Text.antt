@@ -12,7 +12,7 @@ use Rattle.document.specs.Refusals.{notOfGrammar, Answer, taken, refused}
 use Rattle.document.specs.Tokens.{Token, word, mark, ask, noToken, Lexeme, lexemes, offsetOf, isMarkOf, isWordOf}
 use Rattle.document.specs.Grammar.{Whole}
 use Rattle.document.specs.Reading.{nextIs, past, readWhole, Parsed, readAsks, parse}
-use Rattle.grammar.specs.Words.{decided, equal-same}
+use Rattle.basics.specs.Tests.{decided, equal-same}
 use Rattle.grammar.specs.Automaton.{atStart, expecting}
 use Rattle.grammar.specs.Judge.{passes, judge}
 use Rattle.grammar.specs.Agree.{tokens}

@@ -16,7 +16,7 @@ use Rattle.document.specs.Lists.{keepIf, consIf, equal}
 use Rattle.document.specs.Patterns.{Pattern}
 use Rattle.document.specs.Tokens.{Token, word, mark, ask, noToken, isMarkOf, isWordOf}
 use Rattle.document.specs.Grammar.{alternatives, Reads, isEventName}
-use Rattle.grammar.specs.Words.{decided, equal-same}
+use Rattle.basics.specs.Tests.{decided, equal-same}
 use Rattle.grammar.specs.Sorts.{sortOf, View, is-name, is-opening, is-closing, is-bar, is-star, is-plus, is-match, is-fail, is-other, view}
 use Rattle.grammar.specs.Automaton.{State, atStart, atColon, expecting, after, matchAsked, failAsked, bothAsked, stuck, fromExpecting, fromAfter, fromMatchAsked, fromFailAsked, step}
 use Rattle.grammar.specs.Phrases.{Levels, Repeated, levels-begin, repeated-beside, levels-name, levels-opening, repeated-bar, repeated-star, repeated-plus, repeated-closing, repeated-whole}
@@ -77,9 +77,6 @@ inside-next {n = n} t h f o =
     go : {m k : ℕ} (b : Bool) → n ≡ m → k ≡ m + cond b 1 0 → cond b (suc n) n ≡ k
     go true p q = omega arith
     go false p q = omega arith
-
-inside-map : {P Q : List Token → Type 0} {d n : ℕ} {ts : List Token} → Inside P d n ts → ((us : List Token) → P us → Q us) → Inside Q d n ts
-inside-map h f = record { body = h .body; is = h .is; ready = f (h .body) (h .ready); names = h .names; opened = h .opened }
 
 module _ (declared : List (List ℕ)) where
   -- the tokens are a whole pattern with what stands before it, and the tokens us that ask for verdicts

@@ -3,7 +3,7 @@
 use Prim.Native.Nat.{ℕ, zero, suc, _+_, _*_, _<_, _≤_}
 use mathlib.Core.Path.{_≡_, refl, sym, ap, subst, _∙_}
 use mathlib.Core.Logic.{_⊎_, inl, inr}
-use mathlib.Core.Bool.{Bool, true, false, not, _||_}
+use mathlib.Core.Bool.{Bool, true, false, _||_}
 use mathlib.Core.List.{List, [], _∷_}
 use native.Mathlib.Omega.{arith}
 use native.Mathlib.Decide.{ℕ-discrete, decLt}
@@ -16,9 +16,11 @@ use Rattle.document.specs.Combinations.{includes}
 use Rattle.document.specs.OneEvent.{Kept}
 use Rattle.document.specs.Tables.{numbersAt}
 use Rattle.slices.specs.TestsLaws.{false-of, and-of, or-of}
-use Rattle.combos.specs.NumbersLaws.{length-numbersAt, getD-numbersAt, Included, included-begins, included-turn, included-ends}
+use Rattle.slices.specs.TablesBackLaws.{length-numbersAt}
+use Rattle.slices.specs.TablesLaws.{keptAt}
+use Rattle.combos.specs.NumbersLaws.{getD-numbersAt, Included, included-begins, included-turn, included-ends}
 use Rattle.combos.specs.RowsLaws.{tabulate-in}
-use Rattle.tables.specs.Tables.{rowAt, keptFrom}
+use Rattle.tables.specs.Tables.{keptFrom}
 use Rattle.tables.specs.TablesLaws.{kept-tabulated}
 use Rattle.inplace.specs.InPlace.{Agree, Agrees, LastBound}
 
@@ -111,7 +113,7 @@ module _ (t : List ℕ) (at : ℕ) (b : List ℕ) where
 pub rows-in : (i n : ℕ) (t b : List ℕ) → ((k : ℕ) → i ≤ k → k < i + n → includes (numbersAt width t (k * keptStride)) b ≡ false)
     → (x : Kept) → In x (keptFrom n t (i * keptStride)) → includes (x .combination) b ≡ false
 rows-in i n t b f x j =
-    let r = tabulate-in n (λ k. rowAt t (i * keptStride + k * keptStride)) x (rw (kept-tabulated n t (i * keptStride)) at j) in
+    let r = tabulate-in n (λ k. keptAt width t (i * keptStride + k * keptStride)) x (rw (kept-tabulated n t (i * keptStride)) at j) in
     let l = r .below in
     let e : i * keptStride + r .at * keptStride ≡ (i + r .at) * keptStride = omega arith in
     ap (λ (y : Kept). includes (y .combination) b) (r .is) ∙ ap (λ (y : ℕ). includes (numbersAt width t y) b) e ∙ f (i + r .at) (omega arith) (omega arith)

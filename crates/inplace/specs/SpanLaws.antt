@@ -13,7 +13,7 @@ use Rattle.document.specs.Limits.{width, keptStride}
 use Rattle.document.specs.Combinations.{precedes}
 use Rattle.document.specs.Tables.{numbersAt}
 use Rattle.slices.specs.OrderLaws.{precedes-of, Ascends, combinations}
-use Rattle.tables.specs.Tables.{rowAt}
+use Rattle.slices.specs.TablesLaws.{keptAt}
 use Rattle.tables.specs.TablesLaws.{kept-tabulated, combinations-tabulated}
 use Rattle.combos.specs.RowsLaws.{ascends-at}
 use Rattle.inplace.specs.InPlace.{Rising, Begins, Ends, Spans, Movable}
@@ -32,7 +32,7 @@ rising-of next states e m b kept u = record {
       (subst (λ (x : ℕ). T (precedes (numbersAt width kept x) (numbersAt width kept (j * keptStride)))) (zero-add (i * keptStride))
       (subst (λ (x : ℕ). T (precedes (numbersAt width kept (0 + i * keptStride)) (numbersAt width kept x))) (zero-add (j * keptStride))
       (ascends-at m (λ k. numbersAt width kept (0 + k * keptStride))
-      (subst (λ (l : List (List ℕ)). Ascends l) (ap combinations (kept-tabulated m kept 0) ∙ combinations-tabulated m (λ k. rowAt kept (0 + k * keptStride))) (u .order)) i j h g)));
+      (subst (λ (l : List (List ℕ)). Ascends l) (ap combinations (kept-tabulated m kept 0) ∙ combinations-tabulated m (λ k. keptAt width kept (0 + k * keptStride))) (u .order)) i j h g)));
 }
 
 -- The search -----------------------------------------------------------------------------------------------------------

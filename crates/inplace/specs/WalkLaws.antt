@@ -4,11 +4,9 @@ use Prim.Native.Nat.{ℕ, zero, suc, _+_, _-_, _*_, _<_, _≤_}
 use mathlib.Core.Path.{_≡_, refl, sym, ap, subst, _∙_}
 use mathlib.Core.Bool.{Bool, true, false, not, _&&_}
 use mathlib.Core.List.{List, [], _∷_, _++_}
-use mathlib.Core.List as list
 use native.Mathlib.Omega.{arith}
 use native.Mathlib.Nat.{zero-add}
 use lib.ListN.{length, getD, set, length-set}
-use lib.Seq.{getD-set-same, getD-set-other}
 use borrow.Author.Tests.{not-false}
 use Rattle.document.specs.Lists.{In, consIf}
 use Rattle.document.specs.Limits.{width, keptStride, mostStates}
@@ -16,36 +14,16 @@ use Rattle.document.specs.Positions.{holds}
 use Rattle.document.specs.Combinations.{includes}
 use Rattle.document.specs.OneEvent.{Kept}
 use Rattle.document.specs.Tables.{numbersAt}
-use Rattle.combos.specs.NumbersLaws.{getD-numbersAt}
-use Rattle.combos.specs.Writes.{Put}
-use Rattle.tables.specs.Tables.{rowAt, keptFrom}
+use Rattle.slices.specs.TablesLaws.{keptAt}
+use Rattle.combos.specs.WritesLaws.{stays-put, state-put}
+use Rattle.tables.specs.Tables.{keptFrom}
 use Rattle.tables.specs.TablesLaws.{kept-more, row-move}
 use Rattle.moves.specs.Steps.{stepOf, stateIn}
 use Rattle.keeping.specs.Keeping.{SettleReady}
-use Rattle.keeping.specs.SiftLaws.{settle-stays, settle-moves, Sifting, sifting-ready, sifting-turn}
+use Rattle.keeping.specs.SiftLaws.{settle-stays, settle-moves, sifting-ready, sifting-turn}
 use Rattle.inplace.specs.InPlace.{movedOn, told, Agree, Spans, LastBound, NextFound, Agrees, Movable, Walking, WalksTo, MovedInPlace}
 use Rattle.inplace.specs.ToldLaws.{told-append, told-none, sifted-none}
 use Rattle.inplace.specs.AgreeLaws.{differs, agree-bound, rows-in}
-use Rattle.inplace.specs.declared.InPlace.{InPlace}
-
--- A row that is written where it stands --------------------------------------------------------------------------------
-
-pub stays-put : (i o : ℕ) (t : List ℕ) → o ≡ i → Put (o * keptStride) (numbersAt width t (i * keptStride)) (getD t (i * keptStride + width) 0) t t
-stays-put i o t q = rw q (record {
-  row = λ k h. sym (getD-numbersAt width t (i * keptStride) k h);
-  last = refl;
-  low = λ k h. refl;
-  high = λ k h. refl;
-})
-
--- and whose last number alone is written
-pub state-put : (at s : ℕ) (t : List ℕ) → at + keptStride ≤ length t → Put at (numbersAt width t at) s t (set t (at + width) s)
-state-put at s t h = record {
-  row = λ k g. getD-set-other t (at + width) (at + k) s 0 (λ q. omega arith) ∙ sym (getD-numbersAt width t at k g);
-  last = getD-set-same t (at + width) s 0 (omega arith);
-  low = λ k g. getD-set-other t (at + width) k s 0 (λ q. omega arith);
-  high = λ k g. getD-set-other t (at + width) k s 0 (λ q. omega arith);
-}
 
 -- fewer rows lie within the table too
 pub rows-inside : (m end n : ℕ) → end ≤ m → m * keptStride ≤ n → end * keptStride ≤ n
@@ -57,7 +35,7 @@ module _ (next : List ℕ) (states hopes asks e m i : ℕ) (b t₀ t : List ℕ)
   ready : SettleReady next states e i i b t
   ready = sifting-ready next states hopes e m i i b t₀ t (u .sifts) h
 
-  row-same : rowAt t (i * keptStride) ≡ rowAt t₀ (i * keptStride)
+  row-same : keptAt width t (i * keptStride) ≡ keptAt width t₀ (i * keptStride)
   row-same = row-move t₀ t (i * keptStride) (i * keptStride) (λ k g. u .sifts .rest (i * keptStride + k) (omega arith))
 
   told-more : told (stepOf next) e b (stateIn asks) (keptFrom (i + 1) t₀ 0)
@@ -66,8 +44,8 @@ module _ (next : List ℕ) (states hopes asks e m i : ℕ) (b t₀ t : List ℕ)
       (record { combination = numbersAt width t (i * keptStride); state = stepOf next (getD t (i * keptStride + width) 0) e }) []
   unfolding told movedOn stateIn
   told-more =
-      ap (told (stepOf next) e b (stateIn asks)) (kept-more i t₀ 0 ∙ ap (λ (x : ℕ). keptFrom i t₀ 0 ++ (rowAt t₀ x ∷ [])) (zero-add (i * keptStride)))
-      ∙ told-append (stepOf next) e b (stateIn asks) (keptFrom i t₀ 0) (rowAt t₀ (i * keptStride) ∷ [])
+      ap (told (stepOf next) e b (stateIn asks)) (kept-more i t₀ 0 ∙ ap (λ (x : ℕ). keptFrom i t₀ 0 ++ (keptAt width t₀ x ∷ [])) (zero-add (i * keptStride)))
+      ∙ told-append (stepOf next) e b (stateIn asks) (keptFrom i t₀ 0) (keptAt width t₀ (i * keptStride) ∷ [])
       ∙ ap (λ (k : Kept). told (stepOf next) e b (stateIn asks) (keptFrom i t₀ 0) ++ told (stepOf next) e b (stateIn asks) (k ∷ [])) (sym row-same)
 
   pub walking-state : getD t (i * keptStride + width) 0 < mostStates

@@ -11,16 +11,17 @@ use native.Mathlib.Decide.{decLt}
 use lib.Dec.{T}
 use lib.ListN.{length}
 use borrow.Author.Tests.{not-true, not-false}
-use Rattle.document.specs.Lists.{In, equal, among, tabulate}
+use Rattle.document.specs.Lists.{In, equal, among}
 use Rattle.document.specs.Limits.{width, seenStride}
 use Rattle.document.specs.Combinations.{emptyOf, includes, join, bindsExactly}
 use Rattle.document.specs.OneEvent.{joinSeen}
 use Rattle.document.specs.Tables.{numbersAt, seenRows}
-use Rattle.slices.specs.TestsLaws.{so, not-so, true-of, false-of, either, of-equal, equal-of, among-of}
-use Rattle.slices.specs.CombinationsLaws.{includes-refl, includes-trans, includes-antisym, includes-empty, includes-join, join-includes-left, join-includes-right, included-compatible, length-empty, length-join}
-use Rattle.slices.specs.JoinSeenLaws.{OfWidth, length-joinSeen, includes-joinSeen, joinSeen-includes, joinSeen-least}
+use Rattle.basics.specs.Tests.{decided}
+use Rattle.slices.specs.TestsLaws.{so, not-so, true-of, false-of, of-equal, equal-of, among-of}
+use Rattle.slices.specs.CombinationsLaws.{includes-trans, includes-antisym, includes-empty, includes-join, join-includes-left, join-includes-right, included-compatible, length-empty, length-join}
+use Rattle.slices.specs.JoinSeenLaws.{OfWidth, length-joinSeen, joinSeen-includes, joinSeen-least}
+use Rattle.slices.specs.TablesBackLaws.{length-numbersAt}
 use Rattle.combos.specs.Restrictions.{restricted}
-use Rattle.combos.specs.NumbersLaws.{length-numbersAt}
 use Rattle.combos.specs.RestrictionsLaws.{boundOf, restricted-bound, binds-bound, bound-less, includes-restricted, length-restricted}
 use Rattle.combos.specs.RowsLaws.{tabulate-in}
 
@@ -75,11 +76,11 @@ gathered-begins n t c acc o e = rw e (record {
 
 gathered-one : (n : ℕ) (t c acc : List ℕ) (set : ℕ) → Gathered n t c acc (set + 1) → Gathered n t c (gathered set c (seenRows n t) acc) set
 gathered-one n t c acc set u =
-    elim (either (bindsExactly set part)) [
+    elim (decided (bindsExactly set part)) [
       | inr e ↦ stay (skip e) (λ x i h q. absurd (not-so e (so (q' x h q))))
-      | inl e ↦ elim (either (includes acc part)) [
+      | inl e ↦ elim (decided (includes acc part)) [
         | inl g ↦ stay (covered e g) (λ x i h q. rw (x-is x h q) (so g))
-        | inr g ↦ elim (either (among part (seenRows n t))) [
+        | inr g ↦ elim (decided (among part (seenRows n t))) [
           | inr z ↦ stay (unseen e g z) (λ x i h q. absurd (not-so z (among-of part (seenRows n t) .1 (rw (x-is x h q) at i))))
           | inl z ↦ rw (joins e g z) (grow (among-of part (seenRows n t) .0 (so z)))
         ]
@@ -196,7 +197,7 @@ module _ (n : ℕ) (t c k : List ℕ) (set : ℕ) (f : Bool) where
       let e : x ≡ part = sym (restricted-bound c x g) ∙ ap (λ s. restricted s c) q in
       let b : bindsExactly (set - 1) part ≡ true = ap (bindsExactly (set - 1)) (sym e) ∙ ap (λ s. bindsExactly s x) (sym q) ∙ binds-bound x in
       let a : among part (seenRows n t) ≡ true = true-of (among part (seenRows n t)) (among-of part (seenRows n t) .1 (rw e at i)) in
-      elim (either (includes k part)) [
+      elim (decided (includes k part)) [
         | inl y ↦ rw e (so y)
         | inr y ↦ absurd (so (rw (b, y, a) at z))
       ]
@@ -216,11 +217,11 @@ module _ (n : ℕ) (t c k : List ℕ) (set : ℕ) (f : Bool) where
       sym (false-of (equal (joinSeen width c (seenRows n t)) k) (λ y.
       let e : joinSeen width c (seenRows n t) ≡ k = equal-of (joinSeen width c (seenRows n t)) k y in
       let w : coversAt (set - 1) c k (seenRows n t) ≡ false = sym q ∙ not-true f z in
-      elim (either (bindsExactly (set - 1) part)) [
+      elim (decided (bindsExactly (set - 1) part)) [
         | inr b ↦ so (sym (rw b at w))
-        | inl b ↦ elim (either (includes k part)) [
+        | inl b ↦ elim (decided (includes k part)) [
           | inl g ↦ so (sym (rw (b, g) at w))
-          | inr g ↦ elim (either (among part (seenRows n t))) [
+          | inr g ↦ elim (decided (among part (seenRows n t))) [
             | inr a ↦ so (sym (rw (b, g, a) at w))
             | inl a ↦ not-so g (subst (λ (l : List ℕ). T (includes l part)) e
                 (joinSeen-includes width c (seenRows n t) (u .joins .wide) part (among-of part (seenRows n t) .0 (so a)) (includes-restricted (set - 1) c)))

@@ -1,7 +1,7 @@
 -- Document 01, "Numbers of refusal", 12, over what a run works out once: the counts of parameters and states, and the test of
 -- the hopeful states. With those of a property it is the document's `sound`.
 -- Assumes nothing.
-use Prim.Native.Nat.{ℕ, _+_, _*_, _≤_}
+use Prim.Native.Nat.{ℕ, _*_, _≤_}
 use mathlib.Core.Path.{_≡_, refl}
 use mathlib.Core.Bool.{Bool, not, _&&_}
 use mathlib.Core.List.{List}

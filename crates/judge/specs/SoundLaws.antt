@@ -1,22 +1,25 @@
 -- The clauses of the session check: each alone, the check in the parts in which the code judges it, and the returns of those.
 -- Assumes nothing.
-use Prim.Native.Nat.{ℕ, zero, suc, _+_, _*_, _/_, _<_, _≤_, min}
-use mathlib.Core.Path.{_≡_, refl, sym, ap, _∙_}
+use Prim.Native.Nat.{ℕ, _+_, _*_, _/_, _<_, _≤_}
+use mathlib.Core.Path.{_≡_, sym, _∙_}
 use mathlib.Core.Bool.{Bool, true, false, not, _&&_}
-use mathlib.Core.List.{List, [], _∷_}
-use mathlib.Core.List as list
+use mathlib.Core.List.{List}
 use native.Mathlib.Omega.{arith}
 use native.Mathlib.Nat.{min-eq-left, min-eq-right}
-use lib.Dec.{T, leb, ltb, le→leb}
+use lib.Dec.{leb}
 use lib.ListN.{length, getD}
 use borrow.Author.Tests.{le-leb, lt-leb, leb-true, lt-ltb, le-ltb, not-true, not-false}
-use Rattle.document.specs.Lists.{every, equal, tabulate}
+use Rattle.document.specs.Lists.{every, equal}
 use Rattle.document.specs.Limits.{width, mostSeen, mostKept, seenStride, keptStride}
-use Rattle.document.specs.Combinations.{emptyOf, zeroPast}
+use Rattle.document.specs.Combinations.{zeroPast}
 use Rattle.document.specs.OneEvent.{Kept, joinSeen}
 use Rattle.document.specs.Tables.{numbersAt, seenRoom, keptRoom, seenRows, keptRows}
 use Rattle.document.specs.Session.{Session, seenOf, keptOf, ascending, zeroBetween, keptCombinations}
-use Rattle.slices.specs.TestsLaws.{so, not-so, true-of, same-test, and-of, of-and}
+use Rattle.basics.specs.Tests.{both}
+use Rattle.slices.specs.TestsLaws.{so, true-of, same-test}
+use Rattle.slices.specs.SessionLaws.{seenRoom-holds, keptRoom-holds}
+use Rattle.slices.specs.ListsLaws.{map-tabulate}
+use Rattle.slices.specs.TablesLaws.{keptAt}
 use Rattle.combos.specs.Rows.{SeenInOrder}
 use Rattle.judge.specs.Sound.{rightlyKeptBy, soundBy, sessionOf, rowsOf, Rows}
 use Rattle.judge.specs.RowsLaws.{notEmpty, Passed, passed-stops, passed-turn, passed-ends}
@@ -39,14 +42,6 @@ pub kept-room-lent : (t : List ℕ) → length t / keptStride < mostKept → len
 unfolding keptRoom
 kept-room-lent t h = sym (min-eq-right (omega arith))
 
-pub seen-room-inside : (t : List ℕ) → seenRoom t * seenStride ≤ length t
-unfolding seenRoom
-seen-room-inside t = omega arith
-
-pub kept-room-inside : (t : List ℕ) → keptRoom t * keptStride ≤ length t
-unfolding keptRoom
-kept-room-inside t = omega arith
-
 -- Kept rows ------------------------------------------------------------------------------------------------------------
 
 module _ (c : List ℕ) (state states hopes : ℕ) (hope : ℕ → Bool) (seen : List (List ℕ)) where
@@ -66,8 +61,9 @@ module _ (c : List ℕ) (state states hopes : ℕ) (hope : ℕ → Bool) (seen :
   unfolding rightlyKeptBy
   rightly-join f g j h e z q r = rw (lt-ltb state states h, sym e ∙ not-false f z, ← q) r
 
+-- the kept row of a number
 abbrev pub keptOfRow : List ℕ → ℕ → Kept
-keptOfRow t i = record { combination = numbersAt width t (i * keptStride); state = getD t (i * keptStride + width) 0 }
+keptOfRow t i = keptAt width t (i * keptStride)
 
 module _ (p : Kept → Bool) (m i : ℕ) (t c : List ℕ) (s : ℕ) (f : Bool) where
   row-same : c ≡ numbersAt width t (i * keptStride) → s ≡ getD t (i * keptStride + width) 0 → f ≡ p (record { combination = c; state = s }) → p (keptOfRow t i) ≡ f
@@ -143,11 +139,6 @@ module _ (parameters m room : ℕ) (t : List ℕ) (e : room ≡ keptRoom t) wher
       kept-stands zd r q = rw (← e, le-leb m room h, sym qa ∙ not-false a za, sym qd ∙ not-false d zd) q
 
 -- the combinations of the kept rows
-map-tabulate : {A B : Type 0} (g : A → B) (n : ℕ) (f : ℕ → A) → list.map g (tabulate n f) ≡ tabulate n (λ k. g (f k))
-unfolding tabulate
-map-tabulate g zero f = refl
-map-tabulate g (suc n) f = rw (map-tabulate g n (λ k. f (suc k)))
-
 pub kept-combinations : (n m : ℕ) (seen kept : List ℕ) → keptCombinations (sessionOf n m seen kept) ≡ rowsOf keptStride m kept
 unfolding keptCombinations keptOf keptRows rowsOf
 kept-combinations n m seen kept = map-tabulate (λ (k : Kept). k .combination) m (keptOfRow kept)
@@ -164,9 +155,6 @@ pub record Clauses (parameters states : ℕ) (hope : ℕ → Bool) (s : Session)
   pub rightly : every (rightlyKeptBy states hope (seenOf s)) (keptOf s) ≡ true
   pub seenZero : zeroBetween (s .seenCount * seenStride) (seenRoom (s .seen) * seenStride) (s .seen) ≡ true
   pub keptZero : zeroBetween (s .keptCount * keptStride) (keptRoom (s .kept) * keptStride) (s .kept) ≡ true
-
-both : (x y : Bool) → x && y ≡ true → (x ≡ true) × (y ≡ true)
-both x y e = let h = and-of x y (so e) in (true-of x (h .0), true-of y (h .1))
 
 pub clauses-of : (parameters states : ℕ) (hope : ℕ → Bool) (s : Session) → soundBy parameters states hope s ≡ true → Clauses parameters states hope s
 unfolding soundBy
@@ -261,23 +249,23 @@ sound-parts parameters states hope n m seen kept =
 -- What the parts need, and the returns of the check --------------------------------------------------------------------
 
 pub seen-rows : (n room : ℕ) (t : List ℕ) → room ≡ seenRoom t → n ≤ room → Rows seenStride n t
-seen-rows n room t e h = record { inside = let i = seen-room-inside t in omega arith; wide = omega arith }
+seen-rows n room t e h = record { inside = let i = seenRoom-holds t in omega arith; wide = omega arith }
 
 pub kept-rows : (m room : ℕ) (t : List ℕ) → room ≡ keptRoom t → m ≤ room → Rows keptStride m t
-kept-rows m room t e h = record { inside = let i = kept-room-inside t in omega arith; wide = omega arith }
+kept-rows m room t e h = record { inside = let i = keptRoom-holds t in omega arith; wide = omega arith }
 
 pub seen-in-order : (parameters n : ℕ) (t : List ℕ) (f : Bool) → f ≡ seenStands parameters n t → not f ≡ false → SeenInOrder n t
 unfolding seenStands rowsOf seenRows
 seen-in-order parameters n t f e z =
     let a = both _ _ (sym e ∙ not-false f z) in
     let b = both _ _ (a .1) in
-    record { inside = let h = leb-true n (seenRoom t) (a .0) in let i = seen-room-inside t in omega arith; order = b .0 }
+    record { inside = let h = leb-true n (seenRoom t) (a .0) in let i = seenRoom-holds t in omega arith; order = b .0 }
 
 pub kept-inside : (parameters m : ℕ) (t : List ℕ) (f : Bool) → f ≡ keptStands parameters m t → not f ≡ false → m * keptStride ≤ length t
 unfolding keptStands
 kept-inside parameters m t f e z =
     let a = both _ _ (sym e ∙ not-false f z) in
-    let h = leb-true m (keptRoom t) (a .0) in let i = kept-room-inside t in omega arith
+    let h = leb-true m (keptRoom t) (a .0) in let i = keptRoom-holds t in omega arith
 
 module _ (parameters states n m : ℕ) (hope : ℕ → Bool) (seen kept : List ℕ) (f : Bool) (e : f ≡ seenStands parameters n seen) where
   pub sound-seen : not f ≡ true → false ≡ soundBy parameters states hope (sessionOf n m seen kept)

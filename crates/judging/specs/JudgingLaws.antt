@@ -1,26 +1,25 @@
 -- The turns and returns of judging.
 -- Assumes nothing.
-use Prim.Native.Nat.{ℕ, zero, suc, _+_, _-_, _≤_, _<_}
+use Prim.Native.Nat.{ℕ, zero, suc, _-_, _≤_, _<_}
 use mathlib.Core.Path.{_≡_, refl, sym, subst, _∙_}
 use mathlib.Core.Bool.{Bool, true, false, not, _&&_}
-use mathlib.Core.List.{List, [], _∷_, _++_}
+use mathlib.Core.List.{List}
 use native.Mathlib.Omega.{arith}
 use lib.Dec.{eqb}
-use lib.ListN.{length, getD, replicate}
+use lib.ListN.{getD}
 use borrow.Author.Tests.{eq-eqb, ne-eqb, not-true, not-false}
 use Rattle.document.specs.Lists.{everyBelow}
-use Rattle.document.specs.Limits.{mostEvents, mostStates}
+use Rattle.document.specs.Limits.{mostEvents}
 use Rattle.document.specs.Positions.{holds}
-use Rattle.document.specs.Refusals.{Refusal, number, badProperty, badSession, tableDiffers, Answer, taken, refused}
-use Rattle.document.specs.RefusalsLaws.{number-some}
-use Rattle.document.specs.Declarations.{Declared, declarations}
+use Rattle.document.specs.Refusals.{number, badProperty, badSession, tableDiffers, taken, refused}
+use Rattle.document.specs.Declarations.{Declared}
 use Rattle.document.specs.Property.{Property, inRange, setOf}
 use Rattle.document.specs.Session.{Session, sound}
 use Rattle.document.specs.Log.{agrees, judged}
 use Rattle.words.specs.Range.{in-range-range}
 use Rattle.readings.specs.declared.Reading.{Reading}
 use Rattle.readings.specs.Readings.{padded, Stands, Reads}
-use Rattle.readings.specs.ReadingsLaws.{reads-taken, reads-refused}
+use Rattle.readings.specs.ReadingsLaws.{reads-taken, reads-refused, padded-at}
 use Rattle.judge.specs.Sound.{soundBy}
 use Rattle.moves.specs.declared.Known.{Known}
 use Rattle.known.specs.Knowing.{KnownOf}
@@ -62,21 +61,6 @@ pub sets-decide : (t : Reading) (p : Property) (r : Bool) → p .parameters ≡ 
     → r ≡ sameSets (p .sets) (t .sets) (p .events) → r ≡ agreesBy t p
 unfolding agreesBy
 sets-decide t p r e d q = q ∙ rw (eq-eqb (p .parameters) (t .parameters) e, eq-eqb (p .events) (t .events) d)
-
--- a number that is not there is 0, as padding is
-zero-at : (k e : ℕ) → _≡_ {A = ℕ} (getD (replicate k 0) e 0) 0
-zero-at zero e = refl
-zero-at (suc k) zero = refl
-zero-at (suc k) (suc e) = zero-at k e
-
-pad-at : (l : List ℕ) (k e : ℕ) → getD (l ++ replicate k 0) e 0 ≡ getD l e 0
-pad-at [] k e = zero-at k e
-pad-at (x ∷ l) k zero = refl
-pad-at (x ∷ l) k (suc e) = pad-at l k e
-
-pub padded-at : (l : List ℕ) (e : ℕ) → getD (padded l) e 0 ≡ getD l e 0
-unfolding padded
-padded-at l e = pad-at l (mostEvents - length l) e
 
 pub agrees-same : (text : List ℕ) (d : Declared) (t : Reading) (p : Property) → Stands text d t → agreesBy t p ≡ agrees d p
 unfolding agreesBy agrees sameSets setOf

@@ -12,11 +12,14 @@ use Rattle.document.specs.Lists.{In}
 use Rattle.document.specs.Limits.{width, keptStride}
 use Rattle.document.specs.OneEvent.{Kept, moves, movedFrom}
 use Rattle.document.specs.Tables.{seenRows}
-use Rattle.slices.specs.TestsLaws.{either}
-use Rattle.slices.specs.ListsLaws.{in-append, map-append}
+use Rattle.basics.specs.Tests.{decided}
+use Rattle.basics.specs.Lists.{in-append}
+use Rattle.slices.specs.ListsLaws.{map-append}
 use Rattle.slices.specs.OrderLaws.{Ascends, combinations}
-use Rattle.tables.specs.Tables.{rowAt, keptFrom}
-use Rattle.tables.specs.OrderLaws.{length-insertKept, ascends-back}
+use Rattle.slices.specs.AscendingLaws.{length-insertKept}
+use Rattle.slices.specs.TablesLaws.{keptAt}
+use Rattle.tables.specs.Tables.{keptFrom}
+use Rattle.tables.specs.OrderLaws.{ascends-back}
 use Rattle.tables.specs.TablesLaws.{row-move, length-keptFrom, row-in, kept-two}
 use Rattle.moves.specs.Steps.{stepOf, stateIn}
 use Rattle.moves.specs.Ready.{Right}
@@ -26,7 +29,7 @@ use Rattle.keeping.specs.GrownLaws.{grown-ascends}
 module _ (step : ℕ → ℕ → ℕ) (e : ℕ) (b : List ℕ) (seen : List (List ℕ)) (keeps : Kept → Bool) where
   grown-longer : (k : Kept) (l : List Kept) → length l ≤ length (grownBy step e b seen keeps k l)
   unfolding grownBy
-  grown-longer k l = elim (either (grows step e b seen keeps k)) [
+  grown-longer k l = elim (decided (grows step e b seen keeps k)) [
     | inl h ↦ rw h (let q = length-insertKept (movedFrom width step e b seen k) l in omega arith)
     | inr h ↦ rw h (omega arith)
   ]
@@ -66,11 +69,11 @@ module _ (next : List ℕ) (states hopes e n m i count : ℕ) (b seen t₀ t : L
   abbrev R : List (List ℕ)
   R = seenRows n seen
 
-  row-same : rowAt t ((i - 1) * keptStride) ≡ rowAt t₀ ((i - 1) * keptStride)
+  row-same : keptAt width t ((i - 1) * keptStride) ≡ keptAt width t₀ ((i - 1) * keptStride)
   row-same = row-move t₀ t ((i - 1) * keptStride) ((i - 1) * keptStride) (λ k h. u .low ((i - 1) * keptStride + k) (omega arith))
 
   -- the rows from i - 1 on: that row, and those from i on
-  rest-rows : keptFrom (m - (i - 1)) t₀ ((i - 1) * keptStride) ≡ rowAt t₀ ((i - 1) * keptStride) ∷ keptFrom (m - i) t₀ (i * keptStride)
+  rest-rows : keptFrom (m - (i - 1)) t₀ ((i - 1) * keptStride) ≡ keptAt width t₀ ((i - 1) * keptStride) ∷ keptFrom (m - i) t₀ (i * keptStride)
   unfolding keptFrom
   rest-rows =
       let w = u .within in
@@ -95,8 +98,8 @@ module _ (next : List ℕ) (states hopes e n m i count : ℕ) (b seen t₀ t : L
       ascends-back (combinations (keptFrom i t₀ 0)) (combinations (keptFrom (m - i) t₀ (i * keptStride)))
       (subst (λ (l : List (List ℕ)). Ascends l) (ap combinations (kept-two i m t₀ (u .within)) ∙ map-append (λ (k : Kept). k .combination) (keptFrom i t₀ 0) (keptFrom (m - i) t₀ (i * keptStride))) (u .able .ready .rows .order))
 
-  this-in : In (rowAt t₀ ((i - 1) * keptStride)) (keptFrom m t₀ 0)
-  this-in = subst (λ (k : ℕ). In (rowAt t₀ k) (keptFrom m t₀ 0)) (zero-add ((i - 1) * keptStride)) (row-in m t₀ 0 (i - 1) (let w = u .within in omega arith))
+  this-in : In (keptAt width t₀ ((i - 1) * keptStride)) (keptFrom m t₀ 0)
+  this-in = subst (λ (k : ℕ). In (keptAt width t₀ k) (keptFrom m t₀ 0)) (zero-add ((i - 1) * keptStride)) (row-in m t₀ 0 (i - 1) (let w = u .within in omega arith))
 
   -- what all rows will take
   fits : (i - 1) + length (grown step e b R (stateIn hopes) (keptFrom (m - (i - 1)) t₀ ((i - 1) * keptStride))) ≤ length (grown step e b R (stateIn hopes) (keptFrom m t₀ 0))
@@ -110,14 +113,14 @@ module _ (next : List ℕ) (states hopes e n m i count : ℕ) (b seen t₀ t : L
   count-is : length (grown step e b R (stateIn hopes) (keptFrom (m - i) t₀ (i * keptStride))) ≡ count - i
   count-is = ap length (sym (u .rows)) ∙ length-keptFrom (count - i) t (i * keptStride)
 
-  room : grows step e b R (stateIn hopes) (rowAt t ((i - 1) * keptStride)) ≡ true → (count + 1) * keptStride ≤ length t
+  room : grows step e b R (stateIn hopes) (keptAt width t ((i - 1) * keptStride)) ≡ true → (count + 1) * keptStride ≤ length t
   unfolding grown grownBy
   room g =
-      let g₀ : grows step e b R (stateIn hopes) (rowAt t₀ ((i - 1) * keptStride)) ≡ true = ap (grows step e b R (stateIn hopes)) (sym row-same) ∙ g in
+      let g₀ : grows step e b R (stateIn hopes) (keptAt width t₀ ((i - 1) * keptStride)) ≡ true = ap (grows step e b R (stateIn hopes)) (sym row-same) ∙ g in
       let old = grown step e b R (stateIn hopes) (keptFrom (m - i) t₀ (i * keptStride)) in
       let a : length (grown step e b R (stateIn hopes) (keptFrom (m - (i - 1)) t₀ ((i - 1) * keptStride))) ≡ suc (suc (length old)) =
       ap (λ (l : List Kept). length (grown step e b R (stateIn hopes) l)) rest-rows
-      ∙ rw g₀ (ap suc (length-insertKept (movedFrom width step e b R (rowAt t₀ ((i - 1) * keptStride))) old)) in
+      ∙ rw g₀ (ap suc (length-insertKept (movedFrom width step e b R (keptAt width t₀ ((i - 1) * keptStride))) old)) in
       let f = fits in
       let c = count-is in
       let r = u .able .room in
@@ -141,16 +144,16 @@ module _ (next : List ℕ) (states hopes e n m i count : ℕ) (b seen t₀ t : L
         let g = ap (λ (l : List Kept). length (grown step e b R (stateIn hopes) l)) rest-rows in
         let k = longer in
         omega arith;
-    right = subst (λ (k : Kept). Right (seenRows n seen) k) (sym row-same) (u .able .ready .rows .right (rowAt t₀ ((i - 1) * keptStride)) this-in);
-    within = subst (λ (k : Kept). k .state < states) (sym row-same) (u .able .ready .rows .within (rowAt t₀ ((i - 1) * keptStride)) this-in);
+    right = subst (λ (k : Kept). Right (seenRows n seen) k) (sym row-same) (u .able .ready .rows .right (keptAt width t₀ ((i - 1) * keptStride)) this-in);
+    within = subst (λ (k : Kept). k .state < states) (sym row-same) (u .able .ready .rows .within (keptAt width t₀ ((i - 1) * keptStride)) this-in);
     order = subst (λ (l : List Kept). Ascends (combinations l)) (sym above)
         (grown-ascends step e b R (u .able .ready .binds .wide) (stateIn hopes) (keptFrom (m - i) t₀ (i * keptStride)) (λ k j. u .able .ready .rows .right k (suffix-in k j)) suffix-ascends);
     room = room;
   }
     where
       longer : suc (length (grown step e b R (stateIn hopes) (keptFrom (m - i) t₀ (i * keptStride))))
-          ≤ length (grown step e b R (stateIn hopes) (rowAt t₀ ((i - 1) * keptStride) ∷ keptFrom (m - i) t₀ (i * keptStride)))
-      longer = unfold grown in (let g = grown-longer step e b R (stateIn hopes) (rowAt t₀ ((i - 1) * keptStride)) (grown step e b R (stateIn hopes) (keptFrom (m - i) t₀ (i * keptStride))) in omega arith)
+          ≤ length (grown step e b R (stateIn hopes) (keptAt width t₀ ((i - 1) * keptStride) ∷ keptFrom (m - i) t₀ (i * keptStride)))
+      longer = unfold grown in (let g = grown-longer step e b R (stateIn hopes) (keptAt width t₀ ((i - 1) * keptStride)) (grown step e b R (stateIn hopes) (keptFrom (m - i) t₀ (i * keptStride))) in omega arith)
 
   pub growing-turn : (t′ : List ℕ) (r : ℕ) → length t′ ≡ length t → GrownRow next hopes e n (i - 1) count b seen t t′ r → Growing next states hopes e n m (i - 1) r b seen t₀ t′ fresh
   unfolding grown

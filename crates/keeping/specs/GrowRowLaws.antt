@@ -12,7 +12,8 @@ use Rattle.document.specs.Positions.{holds}
 use Rattle.document.specs.Combinations.{includes, join}
 use Rattle.document.specs.OneEvent.{Kept, insertKept, movedFrom}
 use Rattle.document.specs.Tables.{numbersAt, seenRows}
-use Rattle.tables.specs.Tables.{rowAt, keptFrom, Enterable, Entered}
+use Rattle.slices.specs.TablesLaws.{keptAt}
+use Rattle.tables.specs.Tables.{keptFrom, Enterable, Entered}
 use Rattle.tables.specs.TablesLaws.{row-move}
 use Rattle.moves.specs.Steps.{stepOf, stateIn, movesAt}
 use Rattle.moves.specs.Ready.{Joint}
@@ -23,7 +24,7 @@ use Rattle.keeping.specs.GrownLaws.{of-creates, not-creates}
 module _ (next : List ℕ) (states hopes e n i m : ℕ) (b seen t : List ℕ) (fresh : Bool) (u : GrowReady next states hopes e n i m b seen t fresh) (k : List ℕ) (f : Bool)
     (qk : k ≡ numbersAt width t (i * keptStride)) (qf : f ≡ includes k b) where
   abbrev row : Kept
-  row = rowAt t (i * keptStride)
+  row = keptAt width t (i * keptStride)
 
   abbrev S : List (List ℕ)
   S = seenRows n seen

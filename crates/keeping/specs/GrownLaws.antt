@@ -9,16 +9,18 @@ use lib.Dec.{T}
 use lib.ListN.{length}
 use Rattle.document.specs.Lists.{In}
 use Rattle.document.specs.Limits.{width}
-use Rattle.document.specs.Combinations.{includes, join, precedes}
+use Rattle.document.specs.Combinations.{precedes}
 use Rattle.document.specs.OneEvent.{Kept, joinSeen, moves, movedFrom}
-use Rattle.slices.specs.TestsLaws.{so, not-so, true-of, either, and-of}
+use Rattle.basics.specs.Tests.{decided}
+use Rattle.slices.specs.TestsLaws.{so, not-so, true-of, and-of}
 use Rattle.slices.specs.ListsLaws.{in-map, map-in}
-use Rattle.slices.specs.CombinationsLaws.{join-includes-left, join-includes-right}
 use Rattle.slices.specs.OrderLaws.{precedes-irrefl, precedes-trans, Ascends, combinations, in-insertSeen, insertKept-combinations, in-insertKept}
-use Rattle.tables.specs.OrderLaws.{insertKept-ascends, includes-after}
+use Rattle.slices.specs.MovesLaws.{moves-of}
+use Rattle.slices.specs.AscendingLaws.{created-precedes}
+use Rattle.tables.specs.OrderLaws.{insertKept-ascends}
 use Rattle.moves.specs.Steps.{isNew, inPlace}
 use Rattle.moves.specs.Ready.{Right}
-use Rattle.moves.specs.MovesLaws.{moves-of, old-moves, to-joins}
+use Rattle.moves.specs.MovesLaws.{old-moves, to-joins}
 use Rattle.keeping.specs.Keeping.{creates, grows, grownBy, grown}
 
 module _ (step : ℕ → ℕ → ℕ) (e : ℕ) (b : List ℕ) (seen : List (List ℕ)) (ob : length b ≡ width) where
@@ -30,7 +32,7 @@ module _ (step : ℕ → ℕ → ℕ) (e : ℕ) (b : List ℕ) (seen : List (Lis
 
   pub creates-of : (k : Kept) → T (creates step e b seen k) → (inPlace step e b seen k ≡ false) × T (moves width step e b seen k)
   unfolding creates
-  creates-of k t = elim (either (inPlace step e b seen k)) [ inl h ↦ absurd (rw h at t) | inr h ↦ (h, rw h at t) ]
+  creates-of k t = elim (decided (inPlace step e b seen k)) [ inl h ↦ absurd (rw h at t) | inr h ↦ (h, rw h at t) ]
 
   pub of-creates : (k : Kept) → inPlace step e b seen k ≡ false → creates step e b seen k ≡ moves width step e b seen k
   unfolding creates
@@ -45,11 +47,7 @@ module _ (step : ℕ → ℕ → ℕ) (e : ℕ) (b : List ℕ) (seen : List (Lis
   unfolding movedFrom
   creates-after k t =
       let h = creates-of k t in
-      let m = moves-of step e b seen ob k (h .1) in
-      elim (includes-after (join b (k .combination)) (k .combination) (join-includes-right b (k .combination) (m .0))) [
-        | inl q ↦ absurd (not-so (h .0) (subst (λ (l : List ℕ). T (includes l b)) (sym q) (join-includes-left b (k .combination) (m .0))))
-        | inr q ↦ q
-      ]
+      created-precedes b (k .combination) (moves-of width step e b seen k (h .1) .0) (h .0)
 
   module _ (keeps : Kept → Bool) where
     pub record Grows (l : List Kept) (r : Kept) : Type 0 where
@@ -65,7 +63,7 @@ module _ (step : ℕ → ℕ → ℕ) (e : ℕ) (b : List ℕ) (seen : List (Lis
     pub in-grown : (l : List Kept) (r : Kept) → In r (grown step e b seen keeps l) ↔ (In r l ⊎ Grows l r)
     unfolding grown grownBy
     in-grown [] r = ((λ i. absurd i), (λ s. elim s [ inl i ↦ absurd i | inr g ↦ absurd (g .member) ]))
-    in-grown (k ∷ l) r = elim (either (grows step e b seen keeps k)) [
+    in-grown (k ∷ l) r = elim (decided (grows step e b seen keeps k)) [
       | inl h ↦ rw h (
         (λ i. elim i [
           | inl q ↦ inl (inl q)
@@ -129,7 +127,7 @@ module _ (step : ℕ → ℕ → ℕ) (e : ℕ) (b : List ℕ) (seen : List (Lis
           | inr x ↦ rw (m .is ∙ ap (λ (r : Kept). r .combination) (x .is)) (precedes-trans (k .combination) (x .row .combination) (to (x .row) .combination)
               (a .0 (x .row .combination) (map-in (λ (r : Kept). r .combination) l (x .row) (x .member))) (creates-after (x .row) (grows-of (x .row) (x .grows) .0)))
         ] in
-        elim (either (grows step e b seen keeps k)) [
+        elim (decided (grows step e b seen keeps k)) [
           | inl h ↦ rw h (
             (λ y i. elim (in-insertSeen (to k .combination) (combinations (grown step e b seen keeps l)) y .0 (rw (insertKept-combinations (to k) (grown step e b seen keeps l)) at i)) [
               | inl q ↦ rw q (creates-after k (grows-of k h .0))
@@ -149,7 +147,7 @@ module _ (step : ℕ → ℕ → ℕ) (e : ℕ) (b : List ℕ) (seen : List (Lis
     unfolding grown grownBy grows
     grown-old [] f n = refl
     grown-old (k ∷ l) f n =
-        let c : creates step e b seen k ≡ false = elim (either (inPlace step e b seen k)) [
+        let c : creates step e b seen k ≡ false = elim (decided (inPlace step e b seen k)) [
           | inl h ↦ not-creates k h
           | inr h ↦ of-creates k h ∙ old-moves step e b seen ob k (f k (inl refl) .wide) n h
         ] in

@@ -14,11 +14,11 @@ use Rattle.document.specs.Lists.{In}
 use Rattle.document.specs.Limits.{width, seenStride, keptStride}
 use Rattle.document.specs.OneEvent.{Kept, insertSeen, see, movedFrom, keptAfter}
 use Rattle.document.specs.Tables.{seenRows, keptRows, seenRoom, seenTable, keptTable}
-use Rattle.slices.specs.TestsLaws.{either}
+use Rattle.basics.specs.Tests.{decided}
 use Rattle.slices.specs.OrderLaws.{Ascends, combinations}
+use Rattle.slices.specs.SessionLaws.{seenRoom-holds, keptRoom-holds}
 use Rattle.combos.specs.Rows.{Parted}
 use Rattle.combos.specs.Writes.{SeenInserted, ZeroIn}
-use Rattle.judge.specs.SoundLaws.{seen-room-inside, kept-room-inside}
 use Rattle.tables.specs.Tables.{keptFrom}
 use Rattle.tables.specs.TablesLaws.{kept-move, length-keptFrom, length-seenFrom, kept-rows, seen-rows}
 use Rattle.tables.specs.EnterLaws.{seen-entered}
@@ -55,7 +55,7 @@ module _ (next : List ℕ) (states hopes e n m : ℕ) (b seen kept : List ℕ) (
 
     settled-within : (k : Kept) → k .state < states → settled (stepOf next) e b S k .state < states
     unfolding settled movedFrom
-    settled-within k h = elim (either (inPlace (stepOf next) e b S k)) [ inl q ↦ rw q (u .steady .moves .onward (k .state) h) | inr q ↦ rw q h ]
+    settled-within k h = elim (decided (inPlace (stepOf next) e b S k)) [ inl q ↦ rw q (u .steady .moves .onward (k .state) h) | inr q ↦ rw q h ]
 
     sifted-rows-right : (k : Kept) → In k (keptFrom o t 0) → Right (seenRows n seen) k
     sifted-rows-right k i = sifted-right (stepOf next) e b S (u .wide) (stateIn hopes) (keptFrom m kept 0) (u .steady .rows .right) k (rw rows-are at i)
@@ -78,14 +78,14 @@ module _ (next : List ℕ) (states hopes e n m : ℕ) (b seen kept : List ℕ) (
       room =
           let a = ap length after-is in
           let r = u .room in
-          let i = kept-room-inside kept in
+          let i = keptRoom-holds kept in
           omega arith;
     }
 
     pub kept-written-old : (t′ : List ℕ) → not fresh ≡ true → length t′ ≡ length t → ZeroIn (o * keptStride) (m * keptStride) t t′ → t′ ≡ keptTable after kept
     kept-written-old t′ z l c =
         let f = s .fewer in
-        let i = kept-room-inside kept in
+        let i = keptRoom-holds kept in
         let w = u .steady .keptFits in
         kept-table o kept t′ after (omega arith) (l ∙ same)
         (kept-front o t t′ (λ k h. c .low k h)
@@ -103,7 +103,7 @@ module _ (next : List ℕ) (states hopes e n m : ℕ) (b seen kept : List ℕ) (
         → ZeroIn (r * keptStride) (m * keptStride) t′ t″ → t″ ≡ keptTable after kept
     kept-written-new t′ t″ r l l′ g c =
         let f = s .fewer in
-        let i = kept-room-inside kept in
+        let i = keptRoom-holds kept in
         let w = u .steady .keptFits in
         let q : after ≡ keptFrom r t′ 0 = after-is ∙ sym (g .rows) in
         let a : length after ≡ r = ap length q ∙ length-keptFrom r t′ 0 in
@@ -133,7 +133,7 @@ module _ (n : ℕ) (b seen : List ℕ) (fresh : Bool) (u : Seeable n b seen fres
       omega arith
 
   pub seen-insertable : not fresh ≡ false → n * seenStride + seenStride ≤ length seen
-  seen-insertable z = let m = seen-more z in let i = seen-room-inside seen in omega arith
+  seen-insertable z = let m = seen-more z in let i = seenRoom-holds seen in omega arith
 
   pub seen-written-new : (at : ℕ) (t′ : List ℕ) → not fresh ≡ false → length t′ ≡ length seen → Parted 0 seenStride n seen b at
       → SeenInserted (at * seenStride) (n * seenStride) b seen t′ → t′ ≡ seenTable (see width b (seenRows n seen)) seen

@@ -12,8 +12,9 @@ use Rattle.document.specs.Limits.{width, keptStride, seenStride}
 use Rattle.document.specs.OneEvent.{Kept, insertKept, moves, movedFrom, see, keptAfter}
 use Rattle.document.specs.Tables.{seenRows, keptRows, keptRoom, seenRoom}
 use Rattle.slices.specs.OrderLaws.{Ascends, combinations}
+use Rattle.slices.specs.TablesLaws.{keptAt}
 use Rattle.combos.specs.Rows.{SeenInOrder}
-use Rattle.tables.specs.Tables.{rowAt, keptFrom}
+use Rattle.tables.specs.Tables.{keptFrom}
 use Rattle.moves.specs.Steps.{isNew, inPlace, stepOf, stateIn}
 use Rattle.moves.specs.Ready.{Right, Onward, Binds, Ready, Steady}
 
@@ -57,7 +58,7 @@ pub record SettleReady (next : List ℕ) (states e i o : ℕ) (b t : List ℕ) :
 -- it is written after them as it stays or moves, or it is dropped; there are r rows then
 pub record SettledRow (next : List ℕ) (hopes e i o : ℕ) (b t t′ : List ℕ) (r : ℕ) : Type 0 where
   pub rows : (seen : List (List ℕ)) → keptFrom r t′ 0
-      ≡ keptFrom o t 0 ++ consIf (settles (stepOf next) e b seen (stateIn hopes) (rowAt t (i * keptStride))) (settled (stepOf next) e b seen (rowAt t (i * keptStride))) []
+      ≡ keptFrom o t 0 ++ consIf (settles (stepOf next) e b seen (stateIn hopes) (keptAt width t (i * keptStride))) (settled (stepOf next) e b seen (keptAt width t (i * keptStride))) []
   pub rest : (k : ℕ) → (i + 1) * keptStride ≤ k → getD t′ k 0 ≡ getD t k 0
   pub fewer : r ≤ i + 1
 
@@ -81,14 +82,14 @@ pub record GrowReady (next : List ℕ) (states hopes e n i m : ℕ) (b seen t : 
   pub binds : Binds n seen b fresh
   pub below : i < m
   pub inside : m * keptStride ≤ length t
-  pub right : Right (seenRows n seen) (rowAt t (i * keptStride))
+  pub right : Right (seenRows n seen) (keptAt width t (i * keptStride))
   pub within : getD t (i * keptStride + width) 0 < states
   pub order : Ascends (combinations (keptFrom (m - i - 1) t (i * keptStride + keptStride)))
-  pub room : grows (stepOf next) e b (seenRows n seen) (stateIn hopes) (rowAt t (i * keptStride)) ≡ true → (m + 1) * keptStride ≤ length t
+  pub room : grows (stepOf next) e b (seenRows n seen) (stateIn hopes) (keptAt width t (i * keptStride)) ≡ true → (m + 1) * keptStride ≤ length t
 
 pub record GrownRow (next : List ℕ) (hopes e n i m : ℕ) (b seen t t′ : List ℕ) (r : ℕ) : Type 0 where
   pub rows : keptFrom (r - i) t′ (i * keptStride)
-      ≡ rowAt t (i * keptStride) ∷ grownBy (stepOf next) e b (seenRows n seen) (stateIn hopes) (rowAt t (i * keptStride)) (keptFrom (m - i - 1) t (i * keptStride + keptStride))
+      ≡ keptAt width t (i * keptStride) ∷ grownBy (stepOf next) e b (seenRows n seen) (stateIn hopes) (keptAt width t (i * keptStride)) (keptFrom (m - i - 1) t (i * keptStride + keptStride))
   pub low : (k : ℕ) → k < i * keptStride → getD t′ k 0 ≡ getD t k 0
   pub high : (k : ℕ) → r * keptStride ≤ k → getD t′ k 0 ≡ getD t k 0
   pub more : m ≤ r

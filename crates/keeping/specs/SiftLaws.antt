@@ -16,10 +16,11 @@ use Rattle.document.specs.Positions.{holds}
 use Rattle.document.specs.Combinations.{includes, join}
 use Rattle.document.specs.OneEvent.{Kept, movedFrom}
 use Rattle.document.specs.Tables.{numbersAt}
-use Rattle.slices.specs.TestsLaws.{either}
-use Rattle.combos.specs.NumbersLaws.{length-numbersAt}
+use Rattle.basics.specs.Tests.{decided}
+use Rattle.slices.specs.TablesBackLaws.{length-numbersAt}
+use Rattle.slices.specs.TablesLaws.{keptAt}
 use Rattle.combos.specs.Writes.{Put}
-use Rattle.tables.specs.Tables.{rowAt, keptFrom}
+use Rattle.tables.specs.Tables.{keptFrom}
 use Rattle.tables.specs.TablesLaws.{row-move, row-is, kept-move, kept-more, row-in}
 use Rattle.moves.specs.Steps.{stepOf, stateIn}
 use Rattle.moves.specs.MovesLaws.{in-place-join}
@@ -33,12 +34,12 @@ written-after : (o i : ℕ) (c : List ℕ) (s : ℕ) (t t′ : List ℕ) → o �
 written-after o i c s t t′ h w p =
     kept-more o t′ 0
     ∙ ap₂ (λ (l : List Kept) (k : Kept). l ++ (k ∷ [])) (kept-move o t t′ 0 0 (λ k g. p .low (0 + k) (omega arith)))
-    (ap (rowAt t′) (zero-add (o * keptStride)) ∙ row-is c s t′ (o * keptStride) w (p .row) (p .last))
+    (ap (keptAt width t′) (zero-add (o * keptStride)) ∙ row-is c s t′ (o * keptStride) w (p .row) (p .last))
 
 module _ (next : List ℕ) (states hopes e i o : ℕ) (b t : List ℕ) (u : SettleReady next states e i o b t) (k : List ℕ) (f : Bool)
     (qk : k ≡ numbersAt width t (i * keptStride)) (qf : f ≡ includes k b) where
   abbrev row : Kept
-  row = rowAt t (i * keptStride)
+  row = keptAt width t (i * keptStride)
 
   in-place : includes (numbersAt width t (i * keptStride)) b ≡ f
   in-place = ap (λ (x : List ℕ). includes x b) (sym qk) ∙ sym qf
@@ -105,7 +106,7 @@ sifting-begins next states hopes e m b t u = record {
 }
 
 module _ (next : List ℕ) (states hopes e m i o : ℕ) (b t₀ t : List ℕ) (u : Sifting next states hopes e m i o b t₀ t) where
-  row-same : rowAt t (i * keptStride) ≡ rowAt t₀ (i * keptStride)
+  row-same : keptAt width t (i * keptStride) ≡ keptAt width t₀ (i * keptStride)
   row-same = row-move t₀ t (i * keptStride) (i * keptStride) (λ k h. u .rest (i * keptStride + k) (omega arith))
 
   pub sifting-ready : i < m → SettleReady next states e i o b t
@@ -116,14 +117,14 @@ module _ (next : List ℕ) (states hopes e m i o : ℕ) (b t₀ t : List ℕ) (u
         wide = u .able .wide;
         before = u .fewer;
         inside = let x = u .able .inside in let y = u .same in omega arith;
-        within = rw (u .rest (i * keptStride + width) (omega arith)) (u .able .within (rowAt t₀ (i * keptStride)) (subst (λ (k : ℕ). In (rowAt t₀ k) (keptFrom m t₀ 0)) z (row-in m t₀ 0 i h)));
+        within = rw (u .rest (i * keptStride + width) (omega arith)) (u .able .within (keptAt width t₀ (i * keptStride)) (subst (λ (k : ℕ). In (keptAt width t₀ k) (keptFrom m t₀ 0)) z (row-in m t₀ 0 i h)));
       }
 
   sifted-more : (seen : List (List ℕ)) (l : List Kept) (k : Kept) → sifted (stepOf next) e b seen (stateIn hopes) (l ++ (k ∷ []))
       ≡ sifted (stepOf next) e b seen (stateIn hopes) l ++ consIf (settles (stepOf next) e b seen (stateIn hopes) k) (settled (stepOf next) e b seen k) []
   unfolding sifted
   sifted-more seen [] k = refl
-  sifted-more seen (x ∷ l) k = elim (either (settles (stepOf next) e b seen (stateIn hopes) x)) [
+  sifted-more seen (x ∷ l) k = elim (decided (settles (stepOf next) e b seen (stateIn hopes) x)) [
     | inl h ↦ rw (h, sifted-more seen l k)
     | inr h ↦ rw (h, sifted-more seen l k)
   ]
@@ -139,8 +140,8 @@ module _ (next : List ℕ) (states hopes e m i o : ℕ) (b t₀ t : List ℕ) (u
         s .rows seen
         ∙ ap₂ put (u .rows seen) row-same
         ∙ sym (ap (sifted (stepOf next) e b seen (stateIn hopes)) (kept-more i t₀ 0)
-        ∙ sifted-more seen (keptFrom i t₀ 0) (rowAt t₀ (0 + i * keptStride))
-        ∙ ap (λ (x : ℕ). put old (rowAt t₀ x)) (zero-add (i * keptStride)));
+        ∙ sifted-more seen (keptFrom i t₀ 0) (keptAt width t₀ (0 + i * keptStride))
+        ∙ ap (λ (x : ℕ). put old (keptAt width t₀ x)) (zero-add (i * keptStride)));
     rest = λ k g. s .rest k g ∙ u .rest k (omega arith);
     fewer = s .fewer;
   }

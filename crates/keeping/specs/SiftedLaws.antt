@@ -8,8 +8,9 @@ use mathlib.Core.List.{List, [], _∷_}
 use lib.ListN.{length}
 use Rattle.document.specs.Lists.{In}
 use Rattle.document.specs.Limits.{width}
-use Rattle.document.specs.OneEvent.{Kept, moves, movedFrom}
-use Rattle.slices.specs.TestsLaws.{so, not-so, either}
+use Rattle.document.specs.OneEvent.{Kept, movedFrom}
+use Rattle.basics.specs.Tests.{decided}
+use Rattle.slices.specs.TestsLaws.{so, not-so}
 use Rattle.slices.specs.ListsLaws.{in-map, map-in}
 use Rattle.slices.specs.OrderLaws.{Ascends, combinations}
 use Rattle.moves.specs.Steps.{inPlace}
@@ -18,16 +19,13 @@ use Rattle.moves.specs.MovesLaws.{in-place-join}
 use Rattle.keeping.specs.Keeping.{settled, settles, sifted}
 
 module _ (step : ℕ → ℕ → ℕ) (e : ℕ) (b : List ℕ) (seen : List (List ℕ)) (ob : length b ≡ width) where
-  abbrev may : Kept → Bool
-  may k = moves width step e b seen k
-
   abbrev to : Kept → Kept
   to k = movedFrom width step e b seen k
 
   module _ (keeps : Kept → Bool) where
     pub settled-combination : (k : Kept) → settled step e b seen k .combination ≡ k .combination
     unfolding settled movedFrom
-    settled-combination k = elim (either (inPlace step e b seen k)) [ inl h ↦ rw h (in-place-join step e b seen ob k h) | inr h ↦ rw h ]
+    settled-combination k = elim (decided (inPlace step e b seen k)) [ inl h ↦ rw h (in-place-join step e b seen ob k h) | inr h ↦ rw h ]
 
     pub record Settles (l : List Kept) (r : Kept) : Type 0 where
       pub row : Kept
@@ -39,7 +37,7 @@ module _ (step : ℕ → ℕ → ℕ) (e : ℕ) (b : List ℕ) (seen : List (Lis
     unfolding sifted
     in-sifted [] r = ((λ i. absurd i), (λ s. absurd (s .member)))
     in-sifted (k ∷ l) r =
-        elim (either (settles step e b seen keeps k)) [
+        elim (decided (settles step e b seen keeps k)) [
           | inl h ↦ rw h (
             (λ i. elim i [
               | inl q ↦ record { row = k; member = inl refl; remains = h; is = q }
@@ -63,7 +61,7 @@ module _ (step : ℕ → ℕ → ℕ) (e : ℕ) (b : List ℕ) (seen : List (Lis
     unfolding sifted
     sifted-ascends [] a = tt
     sifted-ascends (k ∷ l) a =
-        elim (either (settles step e b seen keeps k)) [
+        elim (decided (settles step e b seen keeps k)) [
           | inl h ↦ rw h (
             (λ y i.
                 let m = in-map (λ (r : Kept). r .combination) (sifted step e b seen keeps l) y .0 i in

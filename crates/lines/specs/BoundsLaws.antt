@@ -17,7 +17,7 @@ use Rattle.document.specs.Classes.{comma}
 use Rattle.document.specs.Patterns.{match}
 use Rattle.document.specs.Refusals.{Refusal, textTooLong, badShape, badName, nameTwice, overLimits, notOfGrammar, undeclaredEvent, tooManyNames, tooDeep, tooManyStates, badProperty, badSession, noSuchEvent, wrongValues, noRoomForSeen, noRoomForKept, noRoomForReports, badRow, unknownEvent, badValue, wrongFields, headerDiffers, badLookup, offsetPastLog, tableDiffers, number}
 use Rattle.document.specs.Printing.{decimal, wordOf, withCommas, valueText, line, reportLine, reportLines, refusedLine}
-use Rattle.rows.specs.RowsLaws.{split-bool}
+use Rattle.basics.specs.Tests.{decided}
 use Rattle.decimals.specs.Decimals.{valueDigits}
 use Rattle.decimals.specs.DecimalsLaws.{decimal-usize, decimal-value, decimal-byte}
 use Rattle.lines.specs.Lines.{refusedNumberText, refusedNumberLine, mostValue, mostLine}
@@ -27,11 +27,11 @@ use Rattle.lines.specs.LinesLaws.{commas-are, refused-line-number}
 
 value-length : (x : ℕ) → x < 2 ^ 32 → length (valueText x) ≤ valueDigits
 unfolding valueText
-value-length x h = elim (split-bool (eqb x 0)) [ inl e ↦ rw e (omega arith) | inr e ↦ rw e (decimal-value x h) ]
+value-length x h = elim (decided (eqb x 0)) [ inl e ↦ rw e (omega arith) | inr e ↦ rw e (decimal-value x h) ]
 
 word-length : (v : ℕ) → length (wordOf v) ≤ 5
 unfolding wordOf
-word-length v = elim (split-bool (eqb v match)) [ inl e ↦ rw e (omega arith) | inr e ↦ rw e (omega arith) ]
+word-length v = elim (decided (eqb v match)) [ inl e ↦ rw e (omega arith) | inr e ↦ rw e (omega arith) ]
 
 values-length : (l : List ℕ) → ((k : ℕ) → getD l k 0 < 2 ^ 32) → length (withCommas (list.map valueText l)) ≤ length l * mostValue
 unfolding withCommas joinedUp
@@ -118,7 +118,7 @@ pub bytes-past : (size at most : ℕ) → size < at → false ≡ leb (at + most
 bytes-past size at most h = sym (lt-leb (at + most) size (omega arith))
 
 pub bytes-fit : (size at most : ℕ) → at ≤ size → leb most (size - at) ≡ leb (at + most) size
-bytes-fit size at most h = elim (split-bool (leb most (size - at))) [
+bytes-fit size at most h = elim (decided (leb most (size - at))) [
   | inl e ↦ let l = leb-true most (size - at) e in e ∙ sym (le-leb (at + most) size (omega arith))
   | inr e ↦ let l = leb-false most (size - at) e in e ∙ sym (lt-leb (at + most) size (omega arith))
 ]
@@ -127,7 +127,7 @@ pub none-fit : (size at count : ℕ) → size < at → false ≡ leb (at + count
 none-fit size at count h = sym (lt-leb (at + count * mostLine) size (omega arith))
 
 pub fit-by-room : (size at count : ℕ) → at ≤ size → leb count ((size - at) / mostLine) ≡ leb (at + count * mostLine) size
-fit-by-room size at count h = elim (split-bool (leb count ((size - at) / mostLine))) [
+fit-by-room size at count h = elim (decided (leb count ((size - at) / mostLine))) [
   | inl e ↦ let l = leb-true count ((size - at) / mostLine) e in e ∙ sym (le-leb (at + count * mostLine) size (omega arith))
   | inr e ↦ let l = leb-false count ((size - at) / mostLine) e in e ∙ sym (lt-leb (at + count * mostLine) size (omega arith))
 ]

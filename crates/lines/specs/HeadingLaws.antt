@@ -20,11 +20,9 @@ use Rattle.document.specs.Refusals.{textTooLong, badShape, badName, nameTwice, 
 use Rattle.document.specs.RefusalsLaws.{number-some}
 use Rattle.document.specs.Rows.{partsFrom, parts, partOf, fields, firstRow, afterRow, rows, stray}
 use Rattle.document.specs.Declarations.{Declared, isName, isMark, headerRow, eventRow, eventRows, noEvents, declarations}
-use Rattle.document.specs.Printing.{rowWord, verdictWord, lineEnd, withCommas, line}
-use Rattle.words.specs.Sets.{and-left, and-right}
-use Rattle.words.specs.Names.{equal-same}
-use Rattle.words.specs.Taken.{taken-injective, refuse-if-taken, and-then-taken}
-use Rattle.rows.specs.RowsLaws.{split-bool}
+use Rattle.document.specs.Printing.{lineEnd, withCommas, line}
+use Rattle.basics.specs.Tests.{decided, and-left, and-right, equal-same}
+use Rattle.basics.specs.Answers.{taken-one, past-test, past-call}
 use Rattle.rows.specs.SplitLaws.{parts-first}
 use Rattle.rows.specs.TextLaws.{first-part, first-within}
 use Rattle.decimals.specs.Written.{Written}
@@ -57,7 +55,7 @@ rejoin-from row start at [] h e l =
     rw commas-none (append-nil (take (at - start) (drop start row)) ∙ take-all (at - start) (drop start row) (rw length-drop (omega arith)))
 rejoin-from row start at (b ∷ r) h e l =
     let z : drop (at + 1) row ≡ r = sym (drop-drop 1 at row) ∙ ap (drop 1) e in
-    elim (split-bool (eqb b comma)) [
+    elim (decided (eqb b comma)) [
       | inl q ↦
           let ih = rejoin-from row (at + 1) (at + 1) r (omega arith) z (omega arith) in
           let c : comma ∷ drop (at + 1) row ≡ drop at row = rw (z, e, eqb-true b comma q) in
@@ -97,11 +95,11 @@ unfolding headerRow
 header-says row names h =
     let found : List (List ℕ) = drop 1 (fields row) in
     let first : List ℕ = getD (fields row) 0 [] in
-    let one = refuse-if-taken (ltb width (length found)) overLimits _ names h in
-    let two = refuse-if-taken (stray row || not (equal first eventWord)) badShape _ names (one .1) in
-    let three = refuse-if-taken (not (every isName found)) badName _ names (two .1) in
-    let four = refuse-if-taken (repeated found) nameTwice (taken found) names (three .1) in
-    rw (← (taken-injective (four .1))) (record {
+    let one = past-test (ltb width (length found)) overLimits _ names h in
+    let two = past-test (stray row || not (equal first eventWord)) badShape _ names (one .1) in
+    let three = past-test (not (every isName found)) badName _ names (two .1) in
+    let four = past-test (repeated found) nameTwice (taken found) names (three .1) in
+    rw (← (taken-one (four .1))) (record {
       said = refl;
       first = equal-same first eventWord (not-false (equal first eventWord) (or-right (stray row) (not (equal first eventWord)) (two .0)));
       few = ltb-false width (length found) (one .0);
@@ -114,11 +112,11 @@ unfolding eventRow
 event-keeps names d row d′ x h =
     let name : List ℕ = getD (fields row) 0 [] in
     let marks : List (List ℕ) = drop 1 (fields row) in
-    let one = refuse-if-taken (leb mostEvents (length (d .events))) overLimits _ d′ h in
-    let two = refuse-if-taken (stray row || not (eqb (length marks) (length (d .parameters))) || not (every isMark marks)) badShape _ d′ (one .1) in
-    let three = refuse-if-taken (not (isName name) || equal name epsilonWord) badName _ d′ (two .1) in
-    let four = refuse-if-taken (among name (d .events)) nameTwice _ d′ (three .1) in
-    sym (ap (λ (y : Declared). y .parameters) (taken-injective (four .1))) ∙ x
+    let one = past-test (leb mostEvents (length (d .events))) overLimits _ d′ h in
+    let two = past-test (stray row || not (eqb (length marks) (length (d .parameters))) || not (every isMark marks)) badShape _ d′ (one .1) in
+    let three = past-test (not (isName name) || equal name epsilonWord) badName _ d′ (two .1) in
+    let four = past-test (among name (d .events)) nameTwice _ d′ (three .1) in
+    sym (ap (λ (y : Declared). y .parameters) (taken-one (four .1))) ∙ x
 
 events-keep : (names : List (List ℕ)) (more : List (List ℕ)) (a : Answer Declared) (d : Declared)
     → ((x : Declared) → a ≡ taken x → x .parameters ≡ names) → eventRows a more ≡ taken d → d .parameters ≡ names
@@ -126,20 +124,20 @@ unfolding eventRows
 events-keep names [] a d x h = x d h
 events-keep names (row ∷ more) a d x h =
     events-keep names more (andThen a (λ y. eventRow y row)) d
-    (λ y i. let g = and-then-taken a (λ z. eventRow z row) y i in event-keeps names (g .0) row y (x (g .0) (g .1)) (g .2)) h
+    (λ y i. let g = past-call a (λ z. eventRow z row) y i in event-keeps names (g .0) row y (x (g .0) (g .1)) (g .2)) h
 
 pub header-of : (text : List ℕ) (d : Declared) → declarations text ≡ taken d → Header (firstRow text) (d .parameters)
 unfolding declarations noEvents
 header-of text d h =
-    let one = refuse-if-taken (ltb textBytes (length text)) textTooLong _ d h in
-    let two = and-then-taken (headerRow (firstRow text)) _ d (one .1) in
+    let one = past-test (ltb textBytes (length text)) textTooLong _ d h in
+    let two = past-call (headerRow (firstRow text)) _ d (one .1) in
     let names = two .0 in
-    let three = and-then-taken (eventRows (taken (noEvents names)) (rows (afterRow text))) _ d (two .2) in
-    let four = refuse-if-taken (eqb (length (three .0 .events)) 0) overLimits (taken (three .0)) d (three .2) in
+    let three = past-call (eventRows (taken (noEvents names)) (rows (afterRow text))) _ d (two .2) in
+    let four = past-test (eqb (length (three .0 .events)) 0) overLimits (taken (three .0)) d (three .2) in
     let none : ((y : Declared) → taken (noEvents names) ≡ taken y → y .parameters ≡ names) =
-    λ y i. sym (ap (λ (z : Declared). z .parameters) (taken-injective i)) in
+    λ y i. sym (ap (λ (z : Declared). z .parameters) (taken-one i)) in
     let e = events-keep names (rows (afterRow text)) (taken (noEvents names)) (three .0) none (three .1) in
-    rw (← (taken-injective (four .1)), e) (header-says (firstRow text) names (two .1))
+    rw (← (taken-one (four .1)), e) (header-says (firstRow text) names (two .1))
 
 -- the row is `event` and the names with their commas
 header-row : (row : List ℕ) (names : List (List ℕ)) → Header row names → eventWord ++ withCommas names ≡ row
@@ -239,9 +237,3 @@ heading-written at k l n text t t₁ t₂ t₃ h u v w =
     let one = written-then at k l 11 mostNames (bytes "row,verdict") names t t₁ t₂ u v in
     let all = written-then at l n (11 + mostNames) lineEndBytes (bytes "row,verdict" ++ names) lineEnd t t₂ t₃ one w in
     written-as at mostHeading n (bytes "row,verdict" ++ names ++ lineEnd) (headingOf (declarations text)) t t₃ all (heading-is (declarations text) h)
-
--- The heading is `row,verdict`, the bytes of the first row past `event`, and a line end.
-pub heading-row : (text : List ℕ) (d : Declared) → declarations text ≡ taken d
-    → line rowWord (verdictWord ∷ d .parameters) ≡ bytes "row,verdict" ++ drop (length eventWord) (firstRow text) ++ lineEnd
-unfolding line withCommas joinedUp
-heading-row text d t = ap (λ (x : List ℕ). bytes "row,verdict" ++ x ++ lineEnd) (sym (names-are (firstRow text) (d .parameters) (header-of text d t)))

@@ -184,11 +184,6 @@ pub refusal-written : (at k n q : ℕ) (t t′ t″ : List ℕ) → Written at m
     → Written at mostRefusal (refusedNumberText q ++ lineEnd) t t″ n
 refusal-written at k n q t t′ t″ v w = written-then at k n mostRefused lineEndBytes (refusedNumberText q) lineEnd t t′ t″ v w
 
--- what the code writes of a number is what the document says of the refusal
-pub refused-text-number : (r : Refusal) → refusedText r ≡ refusedNumberText (number r)
-unfolding refusedText refusedNumberText
-refused-text-number r = refl
-
 pub refused-line-number : (m n : ℕ) (r : Refusal) → refusedLine m n r ≡ refusedNumberLine m n (number r)
 unfolding refusedLine refusedNumberLine refusedText refusedNumberText
 refused-line-number m n r = refl

@@ -1,27 +1,28 @@
 -- The returns of the face calls: what was judged, and that declarations as they were read say what the text's declarations say.
 -- Assumes nothing.
-use Prim.Native.Nat.{ℕ, zero, suc, _+_, _-_, _*_, _<_, _≤_}
+use Prim.Native.Nat.{ℕ, zero, suc, _+_, _*_, _<_, _≤_}
 use mathlib.Core.Path.{_≡_, refl, sym, ap, subst, _∙_}
 use mathlib.Core.Logic.{inl, inr}
-use mathlib.Core.Bool.{Bool, true, _&&_}
+use mathlib.Core.Bool.{true}
 use mathlib.Core.List.{List, []}
 use native.Mathlib.Omega.{arith}
 use lib.Dec.{eqb, leb, T}
 use lib.ListN.{length, getD, take, drop, replicate, length-replicate}
 use lib.Seq.{getD-take}
-use borrow.Author.Tests.{eq-eqb, leb-true, leb-false, lt-ltb, le-ltb}
-use Rattle.document.specs.Lists.{everyBelow}
+use borrow.Author.Tests.{eq-eqb, leb-true, leb-false}
 use Rattle.document.specs.Limits.{reportStride}
-use Rattle.document.specs.Refusals.{Refusal, number, offsetPastLog, Answer, taken, refused}
+use Rattle.document.specs.Refusals.{Refusal, number, Answer, taken, refused}
 use Rattle.document.specs.RefusalsLaws.{number-some}
 use Rattle.document.specs.Declarations.{Declared}
 use Rattle.document.specs.Property.{Property, setOf}
 use Rattle.document.specs.Session.{Session, Happened, sound, leaves}
 use Rattle.document.specs.Log.{rowEvent, stepRow, agrees, judged, row, rowAt, nextAt, Ran, ranTo, runFrom, run}
+use Rattle.basics.specs.Tests.{decided}
+use Rattle.basics.specs.Lists.{length-tabulate}
 use Rattle.words.specs.Range.{in-range-range}
-use Rattle.slices.specs.TestsLaws.{so, true-of, and-of, of-and, everyBelow-of, of-everyBelow, either}
-use Rattle.slices.specs.ListsLaws.{length-tabulate}
-use Rattle.readings.specs.Readings.{namesAt, padded, Stands}
+use Rattle.slices.specs.TestsLaws.{so, true-of, of-everyBelow}
+use Rattle.readings.specs.Readings.{namesAt}
+use Rattle.readings.specs.ReadingsLaws.{padded-at}
 use Rattle.entries.specs.Entries.{declaredAt}
 use Rattle.judge.specs.Sound.{sessionOf}
 use Rattle.runs.specs.Judged.{agrees-of}
@@ -32,7 +33,6 @@ use Rattle.steps.specs.Steps.{answered, Leaves}
 use Rattle.judging.specs.declared.Judged.{Judged}
 use Rattle.log.specs.declared.Ran.{Ran as Answered}
 use Rattle.judging.specs.Judging.{Good, JudgedAs, Judges}
-use Rattle.judging.specs.JudgingLaws.{padded-at}
 use Rattle.log.specs.Stepping.{rowStepBy, RowGoes}
 use Rattle.log.specs.SteppingLaws.{row-same}
 use Rattle.log.specs.Running.{ranOf, RunLeaves, readAs, Sure}
@@ -110,7 +110,7 @@ run-by-rows : (d d′ : Declared) (p : Property) (log : List ℕ) → ((from : �
     → (budget rows at : ℕ) (s : Session) (reports : List ℕ) (count : ℕ) → runFrom budget d p log rows at s reports count ≡ runFrom budget d′ p log rows at s reports count
 unfolding runFrom
 run-by-rows d d′ p log same zero rows at s reports count = refl
-run-by-rows d d′ p log same (suc budget) rows at s reports count = elim (either (leb (length log) at)) [
+run-by-rows d d′ p log same (suc budget) rows at s reports count = elim (decided (leb (length log) at)) [
   | inl e ↦ let l = leb-true (length log) at e in run-ended d p log (suc budget) rows at s reports count l ∙ sym (run-ended d′ p log (suc budget) rows at s reports count l)
   | inr e ↦ go (leb-false (length log) at e) (stepRow (count * reportStride) d p s reports (rowAt log at)) refl
       (λ h. run-by-rows d d′ p log same budget (rows + 1) (nextAt log at) (h .session) (h .reports) (count + h .reported))

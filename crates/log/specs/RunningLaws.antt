@@ -1,31 +1,28 @@
 -- The turns of the run, and that over declarations as they were read it is the document's.
 -- Assumes nothing.
-use Prim.Native.Nat.{ℕ, zero, suc, _+_, _-_, _*_, _/_, _^_, _<_, _≤_}
+use Prim.Native.Nat.{ℕ, suc, _+_, _-_, _*_, _/_, _^_, _<_, _≤_}
 use mathlib.Core.Path.{_≡_, refl, sym, ap, subst, _∙_}
-use mathlib.Core.Logic.{_⊎_, inl, inr}
-use mathlib.Core.Bool.{Bool, true, false, _&&_}
-use mathlib.Core.List.{List, []}
+use mathlib.Core.Bool.{true}
+use mathlib.Core.List.{List}
 use native.Mathlib.Omega.{arith}
 use lib.Dec.{ltb}
-use lib.ListN.{length, getD, take, drop, length-drop}
+use lib.ListN.{length, take, drop, length-drop}
 use borrow.Author.Tests.{ltb-false}
-use Rattle.document.specs.Lists.{everyBelow}
 use Rattle.document.specs.Limits.{reportStride}
 use Rattle.document.specs.Refusals.{number, noRoomForSeen, noRoomForKept, noRoomForReports, Answer, taken, refused, refuseIf}
 use Rattle.document.specs.RefusalsLaws.{number-some}
 use Rattle.document.specs.Rows.{firstRow}
 use Rattle.document.specs.Declarations.{Declared}
-use Rattle.document.specs.Property.{Property, inRange, setOf}
+use Rattle.document.specs.Property.{Property, inRange}
 use Rattle.document.specs.Session.{Session, Happened, seenOf, keptOf, sound, leaves}
 use Rattle.document.specs.Tables.{seenRoom, keptRoom, reportRoom}
 use Rattle.document.specs.Log.{RowEvent, rowEvent, stepRow, agrees, rowAt, nextAt, Ran, ranTo, runFrom}
-use Rattle.rows.specs.RowsLaws.{split-bool}
+use Rattle.basics.specs.Answers.{past-test, past-call, taken-one}
 use Rattle.rows.specs.TextLaws.{row-part}
 use Rattle.reader.specs.HandingLaws.{next-at-end}
 use Rattle.entries.specs.Entries.{declaredAt}
 use Rattle.judge.specs.Sound.{sessionOf}
 use Rattle.moves.specs.declared.Known.{Known}
-use Rattle.runs.specs.Answers.{past-test, past-call, taken-one}
 use Rattle.runs.specs.Judged.{agrees-of}
 use Rattle.runs.specs.RowEvents.{row-says}
 use Rattle.runs.specs.Turns.{run-spent, run-ended, run-refused, run-taken}

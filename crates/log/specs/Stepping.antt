@@ -2,7 +2,6 @@
 -- it is the document's `stepRow`.
 -- Assumes nothing.
 use Prim.Native.Nat.{ℕ, _<_, _≤_}
-use mathlib.Core.Path.{_≡_}
 use mathlib.Core.List.{List}
 use Rattle.document.specs.Limits.{width, mostEvents}
 use Rattle.document.specs.Refusals.{Answer, andThen}

@@ -1,39 +1,34 @@
 -- The returns of one row, and that over declarations and a property it is the document's `stepRow`.
 -- Assumes nothing.
-use Prim.Native.Nat.{ℕ, _<_, _≤_}
-use mathlib.Core.Path.{_≡_, refl, sym, ap, subst, _∙_}
+use Prim.Native.Nat.{ℕ, _<_}
+use mathlib.Core.Path.{_≡_, refl, ap, subst, _∙_}
 use mathlib.Core.Logic.{_⊎_, inl, inr}
-use mathlib.Core.Bool.{Bool, true, false, not}
+use mathlib.Core.Bool.{true, false}
 use mathlib.Core.List.{List, []}
 use native.Mathlib.Omega.{arith}
-use lib.Dec.{eqb, leb}
-use lib.ListN.{length, getD, take, drop, replicate, length-replicate}
+use lib.Dec.{leb}
+use lib.ListN.{length, getD, take, drop, length-replicate}
 use lib.Seq.{getD-take}
-use borrow.Author.Tests.{leb-true, leb-false}
+use borrow.Author.Tests.{leb-false}
 use Rattle.document.specs.Lists.{placeOf}
-use Rattle.document.specs.Refusals.{Refusal, number, Answer, taken, refused, andThen}
+use Rattle.document.specs.Refusals.{Refusal, number, Answer, taken, refused}
 use Rattle.document.specs.RefusalsLaws.{number-some}
 use Rattle.document.specs.Rows.{fields}
 use Rattle.document.specs.Declarations.{Declared}
-use Rattle.document.specs.Property.{Property, inRange}
-use Rattle.document.specs.Session.{Session, Happened, keptOf, sound, leaves, stepFrom}
-use Rattle.document.specs.Log.{RowEvent, rowEvent, stepRow, agrees}
-use Rattle.rows.specs.RowsLaws.{split-bool}
-use Rattle.slices.specs.ListsLaws.{length-tabulate}
+use Rattle.document.specs.Session.{Happened, leaves}
+use Rattle.document.specs.Log.{RowEvent, rowEvent}
+use Rattle.basics.specs.Tests.{decided}
+use Rattle.basics.specs.Lists.{length-tabulate}
 use Rattle.readings.specs.declared.Reading.{Reading}
 use Rattle.readings.specs.Readings.{padded, namesAt, Stands}
+use Rattle.readings.specs.ReadingsLaws.{padded-at}
 use Rattle.entries.specs.declared.Entry.{Entry}
 use Rattle.entries.specs.Entries.{declaredAt, entryOf}
 use Rattle.judge.specs.Sound.{sessionOf}
 use Rattle.moves.specs.Ready.{Steady}
-use Rattle.moves.specs.declared.Known.{Known}
-use Rattle.runs.specs.Judged.{agrees-of}
 use Rattle.runs.specs.RowEvents.{row-says}
 use Rattle.steps.specs.declared.Answered.{Answered}
 use Rattle.steps.specs.Steps.{stepBy, answered, Leaves}
-use Rattle.known.specs.Knowing.{KnownOf}
-use Rattle.steps.specs.SteadyLaws.{kept-range, step-same}
-use Rattle.judging.specs.JudgingLaws.{padded-at}
 use Rattle.log.specs.Stepping.{rowStepBy, RowGoes}
 
 -- What an entry says of the row ----------------------------------------------------------------------------------------
@@ -110,7 +105,7 @@ set-at l n e h = getD-take n (padded l) e 0 h ∙ padded-at l e
 pub row-same : (text : List ℕ) (d : Declared) (t : Reading) (row : List ℕ) → Stands text d t
     → rowEvent (declaredAt text (t .starts) (t .sizes) (t .sets) (t .events) (t .parameters)) row ≡ rowEvent d row
 unfolding rowEvent declaredAt
-row-same text d t row w = go (split-bool (leb (length (d .events)) (placeOf (getD (fields row) 0 []) (d .events))))
+row-same text d t row w = go (decided (leb (length (d .events)) (placeOf (getD (fields row) 0 []) (d .events))))
   where
     go : (leb (length (d .events)) (placeOf (getD (fields row) 0 []) (d .events)) ≡ true) ⊎ (leb (length (d .events)) (placeOf (getD (fields row) 0 []) (d .events)) ≡ false)
         → rowEvent (declaredAt text (t .starts) (t .sizes) (t .sets) (t .events) (t .parameters)) row ≡ rowEvent d row

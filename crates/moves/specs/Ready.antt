@@ -10,8 +10,9 @@ use Rattle.document.specs.Limits.{width, seenStride, keptStride, mostEvents, mo
 use Rattle.document.specs.OneEvent.{Kept, joinSeen, moves}
 use Rattle.document.specs.Tables.{seenRows, seenRoom, keptRoom}
 use Rattle.slices.specs.OrderLaws.{Ascends, combinations}
+use Rattle.slices.specs.TablesLaws.{keptAt}
 use Rattle.combos.specs.Rows.{SeenInOrder}
-use Rattle.tables.specs.Tables.{rowAt, keptFrom}
+use Rattle.tables.specs.Tables.{keptFrom}
 use Rattle.moves.specs.Steps.{isNew, stepOf}
 
 -- each row's combination has the width and is the join of the seen rows that it includes
@@ -53,7 +54,7 @@ pub record RowReady (next : List ℕ) (states e n i : ℕ) (b seen kept : List �
   pub moves : Onward next states e
   pub binds : Binds n seen b fresh
   pub inside : (i + 1) * keptStride ≤ length kept
-  pub right : Right (seenRows n seen) (rowAt kept (i * keptStride))
+  pub right : Right (seenRows n seen) (keptAt width kept (i * keptStride))
   pub within : getD kept (i * keptStride + width) 0 < states
 
 -- The whole: the tables lie within their rooms, which hold 0 past them ---------------------------------------------------

@@ -15,12 +15,14 @@ use Rattle.document.specs.Positions.{holds}
 use Rattle.document.specs.Combinations.{emptyOf, includes, compatible, join, precedes}
 use Rattle.document.specs.OneEvent.{Kept, joinSeen, moves, insertSeen, see}
 use Rattle.document.specs.Tables.{numbersAt, seenRows}
-use Rattle.slices.specs.TestsLaws.{so, true-of, either}
+use Rattle.basics.specs.Tests.{decided}
+use Rattle.basics.specs.Lists.{length-tabulate}
+use Rattle.slices.specs.TestsLaws.{so, true-of}
 use Rattle.slices.specs.CombinationsLaws.{join-includes-right, length-join}
-use Rattle.slices.specs.ListsLaws.{length-tabulate}
 use Rattle.slices.specs.OrderLaws.{insertSeen-after, insertSeen-here}
+use Rattle.slices.specs.TablesLaws.{keptAt}
 use Rattle.joins.specs.JoinLaws.{Joins}
-use Rattle.tables.specs.Tables.{rowAt, keptFrom}
+use Rattle.tables.specs.Tables.{keptFrom}
 use Rattle.tables.specs.TablesLaws.{row-in}
 use Rattle.moves.specs.Steps.{one, isNew, stepOf, movesAt}
 use Rattle.moves.specs.Ready.{Binds, Joint, Ready, RowReady}
@@ -100,34 +102,34 @@ module _ (next : List ℕ) (states e n m : ℕ) (b seen kept : List ℕ) (fresh 
   pub ready-row : (i : ℕ) → Ready next states e n m b seen kept fresh → i < m → RowReady next states e n i b seen kept fresh
   ready-row i u h =
       let z : 0 + i * keptStride ≡ i * keptStride = zero-add (i * keptStride) in
-      let r : In (rowAt kept (i * keptStride)) (keptFrom m kept 0) = subst (λ (k : ℕ). In (rowAt kept k) (keptFrom m kept 0)) z (row-in m kept 0 i h) in
+      let r : In (keptAt width kept (i * keptStride)) (keptFrom m kept 0) = subst (λ (k : ℕ). In (keptAt width kept k) (keptFrom m kept 0)) z (row-in m kept 0 i h) in
       record {
         moves = u .moves;
         binds = u .binds;
         inside = let j = u .rows .inside in omega arith;
-        right = u .rows .right (rowAt kept (i * keptStride)) r;
-        within = u .rows .within (rowAt kept (i * keptStride)) r;
+        right = u .rows .right (keptAt width kept (i * keptStride)) r;
+        within = u .rows .within (keptAt width kept (i * keptStride)) r;
       }
 
 -- Then b is seen -------------------------------------------------------------------------------------------------------
 
 pub length-insertSeen : (b : List ℕ) (l : List (List ℕ)) → length (insertSeen b l) ≡ suc (length l)
 length-insertSeen b [] = unfold insertSeen in refl
-length-insertSeen b (x ∷ l) = elim (either (precedes x b)) [
+length-insertSeen b (x ∷ l) = elim (decided (precedes x b)) [
   | inl e ↦ rw (insertSeen-after b x l e) (ap suc (length-insertSeen b l))
   | inr e ↦ rw (insertSeen-here b x l e)
 ]
 
 pub see-new : (b : List ℕ) (seen : List (List ℕ)) → isNew b seen ≡ true → see width b seen ≡ insertSeen b seen
 unfolding see isNew
-see-new b seen h = elim (either (equal b (emptyOf width) || among b seen)) [
+see-new b seen h = elim (decided (equal b (emptyOf width) || among b seen)) [
   | inl e ↦ absurd (so (rw e at h))
   | inr e ↦ rw e
 ]
 
 pub see-old : (b : List ℕ) (seen : List (List ℕ)) → isNew b seen ≡ false → see width b seen ≡ seen
 unfolding see isNew
-see-old b seen h = elim (either (equal b (emptyOf width) || among b seen)) [
+see-old b seen h = elim (decided (equal b (emptyOf width) || among b seen)) [
   | inl e ↦ rw e
   | inr e ↦ absurd (so (sym (rw e at h)))
 ]
@@ -135,7 +137,7 @@ see-old b seen h = elim (either (equal b (emptyOf width) || among b seen)) [
 pub length-see : (b : List ℕ) (n : ℕ) (seen : List ℕ) → length (see width b (seenRows n seen)) ≡ n + one (isNew b (seenRows n seen))
 length-see b n seen =
     let l : length (seenRows n seen) ≡ n = unfold seenRows in length-tabulate n _ in
-    elim (either (isNew b (seenRows n seen))) [
+    elim (decided (isNew b (seenRows n seen))) [
       | inl e ↦ rw (see-new b (seenRows n seen) e, e, length-insertSeen b (seenRows n seen), l) (omega arith)
       | inr e ↦ rw (see-old b (seenRows n seen) e, e, l) (omega arith)
     ]

@@ -2,7 +2,7 @@
 -- Assumes nothing.
 use Prim.Native.Nat.{ℕ, suc, _+_, _-_, _*_, _≤_, _<_}
 use mathlib.Core.Path.{_≡_, refl, sym, ap, ap₂, _∙_}
-use mathlib.Core.Bool.{Bool, true, false, not}
+use mathlib.Core.Bool.{Bool, true, false}
 use mathlib.Core.List.{List, [], _∷_}
 use lib.ListN.{length, take, drop}
 use lib.Dec.{lit≤}
@@ -16,7 +16,7 @@ use Rattle.document.specs.Classes.{opening, closing, epsilonWord}
 use Rattle.document.specs.Patterns.{Pattern, epsilon, name}
 use Rattle.document.specs.Tokens.{Token, word, mark, ask, noToken, Lexeme, beginsAtom}
 use Rattle.document.specs.Reading.{Reading, read, stopped, nextIs, closed, readName, atomOf, readAtomIn, readAlternative, readAtom}
-use Rattle.words.specs.Range.{tabulate-length}
+use Rattle.basics.specs.Lists.{length-tabulate}
 use Rattle.readings.specs.Readings.{namesAt}
 use Rattle.sets.specs.declared.Shape.{Shape}
 use Rattle.sets.specs.Shapes.{shapeOf}
@@ -52,7 +52,7 @@ module _ (text starts sizes : List ℕ) (events : ℕ) (s : List ℕ) (at n d : 
   module _ (i : c ≡ false) (event : ℕ) (k : event ≡ placeOf (take (t .end - at) (drop at s)) (namesAt text events starts sizes)) where
     names-length : length (namesAt text events starts sizes) ≡ events
     unfolding namesAt
-    names-length = tabulate-length events _
+    names-length = length-tabulate events _
 
     pub word-undeclared : (r : Part) → events ≤ event → r ≡ refusedAt (number undeclaredEvent) at
         → Answers (readAtom (namesAt text events starts sizes)) 0 s at n d r

@@ -6,7 +6,7 @@ use mathlib.Core.Path.{_≡_}
 use mathlib.Core.List.{List}
 use lib.ListN.{length}
 use Rattle.document.specs.Limits.{mostNames, mostOpen, mostEvents}
-use Rattle.document.specs.Refusals.{number, taken, refused}
+use Rattle.document.specs.Refusals.{number, taken}
 use Rattle.document.specs.Patterns.{Pattern, epsilon}
 use Rattle.document.specs.Tokens.{Lexeme, offsetOf}
 use Rattle.document.specs.Reading.{Reading, read, stopped, marked}

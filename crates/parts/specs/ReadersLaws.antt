@@ -13,7 +13,7 @@ use Rattle.document.specs.Classes as byte
 use Rattle.document.specs.Patterns.{Pattern, alternative, sequence, star, plus}
 use Rattle.document.specs.Tokens.{mark, Lexeme, isMarkOf, beginsAtom}
 use Rattle.document.specs.Reading.{Reading, read, stopped, nextIs, joinReading, marked, markedReading, moreAlternatives, moreRepetitions, readAlternative, readSequence, readRepetition, readAtom}
-use Rattle.rows.specs.RowsLaws.{split-bool}
+use Rattle.basics.specs.Tests.{decided}
 use Rattle.sets.specs.declared.Shape.{Shape}
 use Rattle.sets.specs.Shapes.{shapeOf, eitherShape, thenShape, starShape, plusShape}
 use Rattle.sets.specs.ShapesLaws.{either-shape, then-shape, star-shape, plus-shape}
@@ -72,7 +72,7 @@ module _ (D : List (List ℕ)) (s : List ℕ) (at n d : ℕ) (a : Part) (h : Ans
           bar-says f _ q (λ x g hx. joined s alternative eitherShape either-shape a b x (readAlternative D f d (a .names) (lexemesAt s (t .next))) g hx y))
 
       pub alternative-joined : (r : Part) → Joined eitherShape a b r → Answers (readAlternative D) 3 s at n d r
-      alternative-joined r j = elim (split-bool (eqb (b .refusal) 0)) [
+      alternative-joined r j = elim (decided (eqb (b .refusal) 0)) [
         | inl y ↦ let o = eqb-true (b .refusal) 0 y in rw (j .taken o) (alternative-taken o)
         | inr y ↦ let o = eqb-false (b .refusal) 0 y in rw (j .stopped o) (alternative-stopped o)
       ]
@@ -119,7 +119,7 @@ module _ (D : List (List ℕ)) (s : List ℕ) (at n d : ℕ) (a : Part) (h : Ans
           beside-says f _ q (λ x g hx. joined s sequence thenShape then-shape a b x (readSequence D f d (a .names) (lexemesAt s (a .at))) g hx y))
 
       pub sequence-joined : (r : Part) → Joined thenShape a b r → Answers (readSequence D) 2 s at n d r
-      sequence-joined r j = elim (split-bool (eqb (b .refusal) 0)) [
+      sequence-joined r j = elim (decided (eqb (b .refusal) 0)) [
         | inl y ↦ let o = eqb-true (b .refusal) 0 y in rw (j .taken o) (sequence-taken o)
         | inr y ↦ let o = eqb-false (b .refusal) 0 y in rw (j .stopped o) (sequence-stopped o)
       ]

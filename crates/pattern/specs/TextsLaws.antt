@@ -16,7 +16,7 @@ use Rattle.document.specs.Classes.{colon, ereWord}
 use Rattle.document.specs.Patterns.{Pattern}
 use Rattle.document.specs.Tokens.{Token, word, mark, ask, noToken, Lexeme, lexemes, offsetOf, isMarkOf, isWordOf}
 use Rattle.document.specs.Reading.{Reading, read, stopped, nextIs, past, askOf, secondAsk, readAsks, readAlternative, readWhole, parse}
-use Rattle.rows.specs.RowsLaws.{split-bool}
+use Rattle.basics.specs.Tests.{decided}
 use Rattle.readings.specs.Readings.{Inside}
 use Rattle.tokens.specs.declared.Step.{Step}
 use Rattle.tokens.specs.Lexing.{wordKind, endKind, askMatchKind, askFailKind, kindOf, lexemesAt}
@@ -63,9 +63,9 @@ ask-test s at t look = ⊎-elim (λ z. rw (z .tokens, z .kind)) (λ z. rw (z .to
     go noToken z = refl
 
 pub asked-small : (k v : ℕ) → v ≡ askedBy k → v ≤ 2
-asked-small k v e = elim (split-bool (eqb k askMatchKind)) [
+asked-small k v e = elim (decided (eqb k askMatchKind)) [
   | inl a ↦ rw (e, a) (lit≤ tt)
-  | inr a ↦ rw (e, a) (elim (split-bool (eqb k askFailKind)) [ inl b ↦ rw b (lit≤ tt) | inr b ↦ rw b (lit≤ tt) ])
+  | inr a ↦ rw (e, a) (elim (decided (eqb k askFailKind)) [ inl b ↦ rw b (lit≤ tt) | inr b ↦ rw b (lit≤ tt) ])
 ]
 
 -- The definition's answers, by what the tokens that are left ask for.
@@ -75,24 +75,24 @@ no-ask s x n [] e = refl
 no-ask s x n (y ∷ ls) e = rw (readAsks, e)
 
 first-ask : (s : List ℕ) (x : Pattern) (n v : ℕ) (y : Lexeme) (ls more : List Lexeme) → ls ≡ y ∷ more → nextAsk ls ≡ v → (v ≡ 0 → ⊥)
-    → readAsks s (read x ls n) ≡ secondAsk s x v more
+    → readAsks s (read x ls n) ≡ secondAsk x v more
 unfolding readAsks
 first-ask s x n v y ls more e k z = let h = rw e at k in rw (e, readAsks, lt-ltb 0 (askOf (y .token)) (omega arith), h)
 
-second-wrong : (s : List ℕ) (x : Pattern) (v : ℕ) (y : Lexeme) (more : List Lexeme) → (v + askOf (y .token) ≡ 3 → ⊥)
-    → secondAsk s x v (y ∷ more) ≡ refused notOfGrammar (y .at)
+second-wrong : (x : Pattern) (v : ℕ) (y : Lexeme) (more : List Lexeme) → (v + askOf (y .token) ≡ 3 → ⊥)
+    → secondAsk x v (y ∷ more) ≡ refused notOfGrammar (y .at)
 unfolding secondAsk
-second-wrong s x v y [] h = rw (secondAsk, ne-eqb (v + askOf (y .token)) 3 h)
-second-wrong s x v y (u ∷ more) h = rw (secondAsk, ne-eqb (v + askOf (y .token)) 3 h)
+second-wrong x v y [] h = rw (secondAsk, ne-eqb (v + askOf (y .token)) 3 h)
+second-wrong x v y (u ∷ more) h = rw (secondAsk, ne-eqb (v + askOf (y .token)) 3 h)
 
-second-more : (s : List ℕ) (x : Pattern) (v : ℕ) (y u : Lexeme) (more : List Lexeme) → v + askOf (y .token) ≡ 3
-    → secondAsk s x v (y ∷ u ∷ more) ≡ refused notOfGrammar (u .at)
+second-more : (x : Pattern) (v : ℕ) (y u : Lexeme) (more : List Lexeme) → v + askOf (y .token) ≡ 3
+    → secondAsk x v (y ∷ u ∷ more) ≡ refused notOfGrammar (u .at)
 unfolding secondAsk
-second-more s x v y u more h = rw (secondAsk, eq-eqb (v + askOf (y .token)) 3 h)
+second-more x v y u more h = rw (secondAsk, eq-eqb (v + askOf (y .token)) 3 h)
 
-second-both : (s : List ℕ) (x : Pattern) (v : ℕ) (y : Lexeme) → v + askOf (y .token) ≡ 3 → secondAsk s x v (y ∷ []) ≡ taken (record { pattern = x; asked = 3 })
+second-both : (x : Pattern) (v : ℕ) (y : Lexeme) → v + askOf (y .token) ≡ 3 → secondAsk x v (y ∷ []) ≡ taken (record { pattern = x; asked = 3 })
 unfolding secondAsk
-second-both s x v y h = rw (secondAsk, eq-eqb (v + askOf (y .token)) 3 h)
+second-both x v y h = rw (secondAsk, eq-eqb (v + askOf (y .token)) 3 h)
 
 module _ (s : List ℕ) (a : Part) (r : Parsed) (t : Step) (look : Looks s (a .at) t) (v : ℕ) (e : v ≡ askedBy (t .kind)) where
   pub asks-none : Begins s (a .at) → v ≡ 0 → r ≡ refusedText (number notOfGrammar) (a .at) → Asks s a r
@@ -101,7 +101,7 @@ module _ (s : List ℕ) (a : Part) (r : Parsed) (t : Step) (look : Looks s (a .a
   }
 
   module _ (z : v ≡ 0 → ⊥) where
-    first-is : (x : Pattern) → readAsks s (read x (lexemesAt s (a .at)) (a .names)) ≡ secondAsk s x v (lexemesAt s (t .next))
+    first-is : (x : Pattern) → readAsks s (read x (lexemesAt s (a .at)) (a .names)) ≡ secondAsk x v (lexemesAt s (t .next))
     first-is x =
         let h = step-here s (a .at) t look (λ i. z (e ∙ rw i)) in
         first-ask s x (a .names) v _ _ _ (h .tokens) (ask-test s (a .at) t look ∙ sym e) z
@@ -112,17 +112,17 @@ module _ (s : List ℕ) (a : Part) (r : Parsed) (t : Step) (look : Looks s (a .a
 
     module _ (l : t .next < length s) (u : Step) (look′ : Looks s (t .next) u) (w : ℕ) (e′ : w ≡ askedBy (u .kind)) where
       second-is : (x : Pattern) → (y : Lexeme) × ((y .at ≡ t .next) × ((askOf (y .token) ≡ w)
-          × (readAsks s (read x (lexemesAt s (a .at)) (a .names)) ≡ secondAsk s x v (y ∷ lexemesAt s (u .next)))))
+          × (readAsks s (read x (lexemesAt s (a .at)) (a .names)) ≡ secondAsk x v (y ∷ lexemesAt s (u .next)))))
       second-is x =
           let h = step-here s (t .next) u look′ (λ i. let j = end-here s (t .next) u look′ i .1 in omega arith) in
           let m = rw (h .tokens) at (ask-test s (t .next) u look′) in
-          (record { token = h .token; at = t .next }, (refl, (m ∙ sym e′, first-is x ∙ ap (secondAsk s x v) (h .tokens))))
+          (record { token = h .token; at = t .next }, (refl, (m ∙ sym e′, first-is x ∙ ap (secondAsk x v) (h .tokens))))
 
       pub asks-wrong : (v + w ≡ 3 → ⊥) → r ≡ refusedText (number notOfGrammar) (t .next) → Asks s a r
       asks-wrong n k = record {
         says = λ x _.
             let y = second-is x in
-            rw (y .1 .1 .1, second-wrong s x v (y .0) (lexemesAt s (u .next)) (λ q. n (ap (λ i. v + i) (sym (y .1 .1 .0)) ∙ q)), y .1 .0) k;
+            rw (y .1 .1 .1, second-wrong x v (y .0) (lexemesAt s (u .next)) (λ q. n (ap (λ i. v + i) (sym (y .1 .1 .0)) ∙ q)), y .1 .0) k;
       }
 
       module _ (q : v + w ≡ 3) where
@@ -130,14 +130,14 @@ module _ (s : List ℕ) (a : Part) (r : Parsed) (t : Step) (look : Looks s (a .a
         asks-more i k = record {
           says = λ x _.
               let y = second-is x in
-              rw (y .1 .1 .1, lexemes-token s (u .next) (look′ .begins) i, second-more s x v (y .0) _ _ (ap (λ i. v + i) (y .1 .1 .0) ∙ q)) k;
+              rw (y .1 .1 .1, lexemes-token s (u .next) (look′ .begins) i, second-more x v (y .0) _ _ (ap (λ i. v + i) (y .1 .1 .0) ∙ q)) k;
         }
 
         pub asks-both : length s ≤ u .next → r ≡ takenText 3 (a .shape) → Asks s a r
         asks-both i k = record {
           says = λ x g.
               let y = second-is x in
-              rw (y .1 .1 .1, lexemes-end s (u .next) i, second-both s x v (y .0) (ap (λ i. v + i) (y .1 .1 .0) ∙ q)) (k ∙ ap (takenText 3) g);
+              rw (y .1 .1 .1, lexemes-end s (u .next) i, second-both x v (y .0) (ap (λ i. v + i) (y .1 .1 .0) ∙ q)) (k ∙ ap (takenText 3) g);
         }
 
 -- a refusal of the pattern is the text's

@@ -15,9 +15,9 @@ use Rattle.document.specs.Rows.{rows}
 use Rattle.document.specs.Session.{Session, leaves}
 use Rattle.document.specs.Log.{rowEvent, stepRow, rowAt, nextAt}
 use Rattle.document.specs.Printing.{rowLines}
+use Rattle.basics.specs.Tests.{decided}
 use Rattle.rows.specs.TextLaws.{rows-over}
 use Rattle.rows.specs.RunsOfRows.{passes-cut}
-use Rattle.slices.specs.TestsLaws.{either}
 use Rattle.runs.specs.PrintPart.{rowText, PrintedTo, nothingPrinted, linesFirst, printFrom}
 use Rattle.runs.specs.PrintLaws.{print-row, print-append, prints}
 use Rattle.printing.specs.Printing.{fitsRow, printRows}
@@ -61,11 +61,11 @@ pub prints-part : (turns : ℕ) (d : Declared) (p : Property) (log : List ℕ) (
     → Part d p log at n s reports (printRows turns d p log at n s reports room filled)
 unfolding printRows printFrom
 prints-part zero d p log at n s reports room filled = record { rows = 0; is = refl }
-prints-part (suc turns) d p log at n s reports room filled = elim (either (leb (length log) at)) [
+prints-part (suc turns) d p log at n s reports room filled = elim (decided (leb (length log) at)) [
   | inl e ↦ record { rows = 0; is = rows-ended d p log (suc turns) at n s reports room filled (leb-true (length log) at e) }
   | inr e ↦
       let l = leb-false (length log) at e in
-      elim (either (fitsRow room filled (s .keptCount) n)) [
+      elim (decided (fitsRow room filled (s .keptCount) n)) [
         | inr f ↦ record { rows = 0; is = rows-full d p log (suc turns) at n s reports room filled l f }
         | inl f ↦
             let a = stepRow 0 d p s reports (rowAt log at) in
@@ -120,13 +120,13 @@ pub rows-alike : (d e : Declared) → ((bytes : List ℕ) → rowEvent d bytes �
     → printRows turns d p log at n s reports room filled ≡ printRows turns e p log at n s reports room filled
 unfolding printRows
 rows-alike d e same zero p log at n s reports room filled = refl
-rows-alike d e same (suc turns) p log at n s reports room filled = elim (either (leb (length log) at)) [
+rows-alike d e same (suc turns) p log at n s reports room filled = elim (decided (leb (length log) at)) [
   | inl b ↦
       let l = leb-true (length log) at b in
       rows-ended d p log (suc turns) at n s reports room filled l ∙ sym (rows-ended e p log (suc turns) at n s reports room filled l)
   | inr b ↦
       let l = leb-false (length log) at b in
-      elim (either (fitsRow room filled (s .keptCount) n)) [
+      elim (decided (fitsRow room filled (s .keptCount) n)) [
         | inr f ↦ rows-full d p log (suc turns) at n s reports room filled l f ∙ sym (rows-full e p log (suc turns) at n s reports room filled l f)
         | inl f ↦
             let q = step-alike d e same 0 p s reports (rowAt log at) in

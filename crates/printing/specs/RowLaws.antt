@@ -18,17 +18,17 @@ use Rattle.document.specs.Declarations.{Declared}
 use Rattle.document.specs.Session.{Session, Happened, seenOf, keptOf, leaves}
 use Rattle.document.specs.Log.{rowEvent, rowAt, nextAt}
 use Rattle.document.specs.Printing.{reportLines}
-use Rattle.rows.specs.RowsLaws.{split-bool}
+use Rattle.basics.specs.Tests.{decided}
+use Rattle.basics.specs.Lists.{length-tabulate}
+use Rattle.basics.specs.Answers.{past-test, past-call, taken-one}
 use Rattle.reader.specs.HandingLaws.{next-at-end}
 use Rattle.slices.specs.TestsLaws.{so, true-of, and-of}
-use Rattle.slices.specs.ListsLaws.{length-tabulate}
+use Rattle.slices.specs.MovesLaws.{length-reportsAfter}
 use Rattle.judge.specs.Sound.{sessionOf}
 use Rattle.decimals.specs.Written.{Written}
 use Rattle.lines.specs.Lines.{refusedNumberLine, mostLine}
 use Rattle.lines.specs.LinesLaws.{refused-line-number}
 use Rattle.moves.specs.Steps.{stepOf, stateIn, outcomeBy}
-use Rattle.runs.specs.Answers.{past-test, past-call, taken-one}
-use Rattle.runs.specs.ReportRows.{reports-after-few}
 use Rattle.steps.specs.declared.Answered.{Answered}
 use Rattle.steps.specs.Steps.{withinRoomsBy, stepBy, answered, Leaves}
 use Rattle.writing.specs.Writing.{writtenBy}
@@ -51,7 +51,7 @@ most-kept kept e = rw (ne-eqb kept 0 e)
 -- it is enough for a line, and for one of each kept row
 lines-enough : (kept : ℕ) → (1 ≤ mostLines kept) × (kept ≤ mostLines kept)
 unfolding mostLines
-lines-enough kept = elim (split-bool (eqb kept 0)) [
+lines-enough kept = elim (decided (eqb kept 0)) [
   | inl e ↦ let z = eqb-true kept 0 e in rw e (omega arith, omega arith)
   | inr e ↦ let z = eqb-false kept 0 e in rw e (some z, omega arith)
 ]
@@ -112,7 +112,7 @@ step-few next verdicts hopes asks from s reports e b h q =
     let h₂ = past-test y noRoomForKept third h (h₁ .1) in
     let h₃ = past-test z noRoomForReports (taken (writtenBy verdicts from s reports o)) h (h₂ .1) in
     let c : length (o .rows) ≡ h .reported = ap (λ (u : Happened). u .reported) (taken-one (h₃ .1)) in
-    let f = reports-after-few (stepOf next) e b (seenOf s) (stateIn asks) (keptOf s) in
+    let f = length-reportsAfter width (stepOf next) e b (seenOf s) (keptOf s) (stateIn asks) in
     let k : length (keptOf s) ≡ s .keptCount = length-tabulate (s .keptCount) _ in
     omega arith
 

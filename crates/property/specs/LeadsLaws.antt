@@ -19,9 +19,12 @@ use Rattle.document.specs.Lists.{everyBelow, someBelow, tabulate}
 use Rattle.document.specs.Limits.{mostEvents, mostStates}
 use Rattle.document.specs.Positions.{holds}
 use Rattle.document.specs.Property.{Property, inRange, nextState, verdict, asksFor, isAsked, leadsIn, leadsAfter, leads, everyEvent, hopeful}
-use Rattle.words.specs.Range.{InRange, in-range-range, below-every, tabulate-at, tabulate-past, tabulate-length, tabulate-same}
+use Rattle.basics.specs.Tests.{decided}
+use Rattle.basics.specs.Sets.{holds-or, holds-high, holds-zero, holds-pow-same, holds-pow-other}
+use Rattle.basics.specs.Lists.{tabulate-at, length-tabulate, tabulate-past, tabulate-same}
+use Rattle.words.specs.Range.{InRange, in-range-range, below-every}
 use Rattle.bits.specs.Bits.{meets}
-use Rattle.bits.specs.BitsLaws.{split-bool, holds-or, holds-zero, holds-high, holds-pow-same, holds-pow-other, meets-zero, meets-or, meets-pow}
+use Rattle.bits.specs.BitsLaws.{meets-zero, meets-or, meets-pow}
 use Rattle.property.specs.Meaning.{Asks, Asking, Leading, Hopes}
 use Rattle.property.specs.Steps.{Within, Ways, AllWays, Round, Reached}
 
@@ -51,7 +54,7 @@ holds-if true n k = elim (ℕ-discrete k n) [
 below-more : (f : ℕ → Bool) (n k : ℕ) → (ltb k n && f k) || (eqb k n && f n) ≡ ltb k (n + 1) && f k
 below-more f n k = elim (ℕ-discrete k n) [
   | yes q ↦ rw (q, le-ltb n n (omega arith), eq-eqb n n refl, lt-ltb n (n + 1) (omega arith))
-  | no q ↦ rw (ne-eqb k n q) (elim (split-bool (ltb k n)) [
+  | no q ↦ rw (ne-eqb k n q) (elim (decided (ltb k n)) [
     | inl l ↦ let m = ltb-true k n l in rw (l, lt-ltb k (n + 1) (omega arith)) (or-false (f k))
     | inr l ↦ let m = ltb-false k n l in rw (l, le-ltb k (n + 1) (omega arith))
   ])
@@ -153,7 +156,7 @@ rounds-begin ways states marked = record {
 after-length : (p : Property) (marked allowed : ℕ → Bool) (n : ℕ) → length (leadsAfter p marked allowed n) ≡ p .states
 unfolding leadsAfter
 after-length p marked allowed zero = length-replicate (p .states) false
-after-length p marked allowed (suc n) = tabulate-length (p .states) (leadsIn p marked allowed (leadsAfter p marked allowed n))
+after-length p marked allowed (suc n) = length-tabulate (p .states) (leadsIn p marked allowed (leadsAfter p marked allowed n))
 
 -- a round on bits is a round of the definition
 round-finds : (p : Property) (marked allowed found more n : ℕ) (ways : List ℕ) → AllWays (p .next) allowed (p .events) (p .states) ways
@@ -161,7 +164,7 @@ round-finds : (p : Property) (marked allowed found more n : ℕ) (ways : List �
     → ((s : ℕ) → holds found s ≡ getD (leadsAfter p (holds marked) (holds allowed) n) s false)
     → (s : ℕ) → holds more s ≡ getD (leadsAfter p (holds marked) (holds allowed) (suc n)) s false
 unfolding leadsAfter leadsIn nextState
-round-finds p marked allowed found more n ways a r f s = elim (split-bool (ltb s (p .states))) [
+round-finds p marked allowed found more n ways a r f s = elim (decided (ltb s (p .states))) [
   | inl l ↦
       let h = ltb-true s (p .states) l in
       r .says s

@@ -11,7 +11,7 @@ use borrow.Author.Tests.{lt-ltb, le-ltb, le-leb, lt-leb, leb-true, not-true, not
 use Rattle.document.specs.Lists.{everyBelow}
 use Rattle.document.specs.Limits.{width, mostEvents, mostStates}
 use Rattle.document.specs.Property.{Property, inRange, setOf, nextState, verdict}
-use Rattle.words.specs.Sets.{and-left, and-right}
+use Rattle.basics.specs.Tests.{and-left, and-right}
 use Rattle.words.specs.Range.{in-range-range}
 use Rattle.property.specs.Meaning.{countsFit, setsFit, rowFits, rowsFit}
 use Rattle.property.specs.Steps.{Within}

@@ -1,9 +1,9 @@
 -- Laws of the reader: one for each way out of `place_at` and `part`, and the one that `hand_out` ends with.
 -- Assumes nothing.
-use Prim.Native.Nat.{ℕ, zero, suc, _+_, _-_, _≤_, _<_}
-use mathlib.Core.Path.{_≡_, refl, sym, ap, ap₂, _∙_}
-use mathlib.Core.Logic.{_⊎_, inl, inr}
-use mathlib.Core.Bool.{Bool, true, false}
+use Prim.Native.Nat.{ℕ, _+_, _-_, _≤_, _<_}
+use mathlib.Core.Path.{_≡_, refl, sym, ap, _∙_}
+use mathlib.Core.Logic.{inl, inr}
+use mathlib.Core.Bool.{true, false}
 use mathlib.Core.List.{List, [], _∷_}
 use lib.ListN.{length, take, drop, length-drop}
 use denote.Ref.{RefT}
@@ -12,8 +12,9 @@ use lib.Dec.{leb}
 use native.Mathlib.Omega.{arith}
 use borrow.Author.Tests.{le-leb, lt-leb, leb-true, leb-false, ne-eqb}
 use Rattle.document.specs.Rows.{endsRow, firstRow}
-use Rattle.document.specs.Log.{Handed, handed, noRow, handsOut, rowAt, nextAt}
-use Rattle.rows.specs.RowsLaws.{drop-end, first-ends, first-more, split-bool, next-more, next-none}
+use Rattle.document.specs.Log.{handed, noRow, handsOut, rowAt, nextAt}
+use Rattle.basics.specs.Tests.{decided}
+use Rattle.rows.specs.RowsLaws.{drop-end, first-ends, first-more, next-more, next-none}
 use Rattle.rows.specs.TextLaws.{first-part}
 use Rattle.rows.specs.Places.{PartAt, Lies, placeFrom}
 use Rattle.reader.specs.declared.Place.{Place}
@@ -32,7 +33,7 @@ hands-row log at h = rw (lt-leb (length log) at h)
 first-at-end : (t : List ℕ) → firstRow (drop (length (firstRow t)) t) ≡ []
 unfolding firstRow
 first-at-end [] = refl
-first-at-end (b ∷ t) = elim (split-bool (endsRow b t)) [
+first-at-end (b ∷ t) = elim (decided (endsRow b t)) [
   | inl e ↦ rw (first-ends b t e) (first-ends b t e)
   | inr e ↦ rw (first-more b t e) (first-at-end t)
 ]
@@ -43,7 +44,7 @@ next-at-end log at end e =
     rw e (rw (← drop-drop (length (firstRow (drop at log))) at log) (first-at-end (drop at log)))
     in
     let same : end ≡ end + length (firstRow (drop end log)) = rw none (omega arith) in
-    elim (split-bool (leb (length log) end)) [
+    elim (decided (leb (length log) end)) [
       | inl t ↦ let k = leb-true (length log) end t in sym (next-none log end end same k) ∙ next-none log at end e k
       | inr t ↦ let k = leb-false (length log) end t in sym (next-more log end end same k) ∙ next-more log at end e k
     ]
@@ -110,7 +111,7 @@ held-lies lent x at bytes p = rw (p .holds) (p .lies)
 -- `hand_out`: the part between the row's places is the row
 bytes-part : (log : List ℕ) (at : ℕ) → take (at + length (bytesOf (handsOut log at)) - at) (drop at log) ≡ bytesOf (handsOut log at)
 unfolding bytesOf rowAt
-bytes-part log at = elim (split-bool (leb (length log) at)) [
+bytes-part log at = elim (decided (leb (length log) at)) [
   | inl t ↦
       let k : at + 0 - at ≡ 0 = omega arith in
       rw (hands-none log at (leb-true (length log) at t), k)

@@ -1,7 +1,7 @@
 -- What a reader hands out, call after call, until it says that there is none: from the log's start, exactly the log's rows.
 -- Assumes nothing.
 use Prim.Native.Nat.{ℕ, zero, suc, _-_, _≤_, _<_}
-use mathlib.Core.Path.{_≡_, refl, sym, ap, ap₂, _∙_}
+use mathlib.Core.Path.{_≡_, sym, ap, ap₂, _∙_}
 use mathlib.Core.Logic.{inl, inr}
 use mathlib.Core.Bool.{Bool, true, false}
 use mathlib.Core.List.{List, [], _∷_}
@@ -10,8 +10,8 @@ use lib.Dec.{leb}
 use native.Mathlib.Omega.{arith}
 use borrow.Author.Tests.{leb-true, leb-false}
 use Rattle.document.specs.Rows.{rows}
-use Rattle.document.specs.Log.{handsOut, rowAt, nextAt}
-use Rattle.rows.specs.RowsLaws.{split-bool}
+use Rattle.document.specs.Log.{rowAt, nextAt}
+use Rattle.basics.specs.Tests.{decided}
 use Rattle.rows.specs.TextLaws.{next-later, rows-over, rows-next}
 use Rattle.reader.specs.Handing.{isThere, bytesOf, positionAfter, HandsOut}
 use Rattle.reader.specs.HandingLaws.{hands-none, hands-row}
@@ -47,7 +47,7 @@ differ e = let z : _≡_ {A = ℕ} 0 1 = cc in absurd (omega arith)
 calls-end : (n : ℕ) (log : List ℕ) (at : ℕ) → length log - at ≤ n → HandsAll log at (rows (drop at log))
 unfolding rowAt
 calls-end zero log at h = let k : length log ≤ at = omega arith in rw (rows-over log at k) (none (call-none log at k))
-calls-end (suc n) log at h = elim (split-bool (leb (length log) at)) [
+calls-end (suc n) log at h = elim (decided (leb (length log) at)) [
   | inl t ↦ let k = leb-true (length log) at t in rw (rows-over log at k) (none (call-none log at k))
   | inr t ↦
       let k = leb-false (length log) at t in
@@ -61,11 +61,11 @@ hands-all-from log at = calls-end (length log) log at (omega arith)
 -- and they give no other
 pub hands-only-from : (log : List ℕ) (at : ℕ) {l : List (List ℕ)} → HandsAll log at l → l ≡ rows (drop at log)
 unfolding rowAt
-hands-only-from log at (none c) = elim (split-bool (leb (length log) at)) [
+hands-only-from log at (none c) = elim (decided (leb (length log) at)) [
   | inl t ↦ sym (rows-over log at (leb-true (length log) at t))
   | inr t ↦ absurd (differ (hands-single c (call-row log at (leb-false (length log) at t)) .0))
 ]
-hands-only-from log at (oneMore {after = after} c q) = elim (split-bool (leb (length log) at)) [
+hands-only-from log at (oneMore {after = after} c q) = elim (decided (leb (length log) at)) [
   | inl t ↦ absurd (differ (sym (hands-single c (call-none log at (leb-true (length log) at t)) .0)))
   | inr t ↦
       let k = leb-false (length log) at t in

@@ -1,6 +1,6 @@
 -- Laws of the names at places of a text: how many there are, one more, and where a name stands among them.
 -- Assumes nothing.
-use Prim.Native.Nat.{ℕ, zero, suc, _+_, _-_, _≤_, _<_}
+use Prim.Native.Nat.{ℕ, suc, _+_, _-_, _≤_, _<_}
 use mathlib.Core.Path.{_≡_, refl, sym, ap, _∙_}
 use mathlib.Core.Logic.{inl, inr}
 use mathlib.Core.Bool.{Bool, true, false}
@@ -12,36 +12,13 @@ use native.Mathlib.Omega.{arith}
 use native.Mathlib.Numerals.{add-one}
 use borrow.Author.Tests.{lt-ltb, le-ltb, ltb-true, ltb-false}
 use Rattle.document.specs.Lists.{tabulate, some, among, placeOf, equal}
-use Rattle.rows.specs.RowsLaws.{split-bool}
+use Rattle.basics.specs.Tests.{decided}
+use Rattle.basics.specs.Lists.{tabulate-at, length-tabulate, tabulate-same, tabulate-next}
 use Rattle.readings.specs.Readings.{namesAt}
-
--- A list made by a rule: its length, its entries, one entry more, and the same by an equal rule.
-tabulate-length : {A : Type 0} (n : ℕ) (f : ℕ → A) → length (tabulate n f) ≡ n
-unfolding tabulate
-tabulate-length zero f = refl
-tabulate-length (suc n) f = ap suc (tabulate-length n (λ k. f (suc k)))
-
-tabulate-at : {A : Type 0} (n : ℕ) (f : ℕ → A) (k : ℕ) (d : A) → k < n → getD (tabulate n f) k d ≡ f k
-unfolding tabulate
-tabulate-at zero f k d h = absurd (omega arith)
-tabulate-at (suc n) f zero d h = refl
-tabulate-at (suc n) f (suc k) d h = tabulate-at n (λ k. f (suc k)) k d (omega arith)
-
-tabulate-more : {A : Type 0} (n : ℕ) (f : ℕ → A) → tabulate (suc n) f ≡ tabulate n f ++ (f n ∷ [])
-unfolding tabulate
-tabulate-more zero f = refl
-tabulate-more (suc n) f = ap (λ l. f 0 ∷ l) (tabulate-more n (λ k. f (suc k)))
-
-tabulate-same : {A : Type 0} (n : ℕ) (f g : ℕ → A) → ((k : ℕ) → k < n → f k ≡ g k) → tabulate n f ≡ tabulate n g
-unfolding tabulate
-tabulate-same zero f g e = refl
-tabulate-same (suc n) f g e =
-    ap (λ x. x ∷ tabulate n (λ k. f (suc k))) (e 0 (omega arith))
-    ∙ ap (λ l. g 0 ∷ l) (tabulate-same n (λ k. f (suc k)) (λ k. g (suc k)) (λ k h. e (suc k) (omega arith)))
 
 pub names-length : (text : List ℕ) (n : ℕ) (starts sizes : List ℕ) → length (namesAt text n starts sizes) ≡ n
 unfolding namesAt
-names-length text n starts sizes = tabulate-length n (λ k. take (getD sizes k 0) (drop (getD starts k 0) text))
+names-length text n starts sizes = length-tabulate n (λ k. take (getD sizes k 0) (drop (getD starts k 0) text))
 
 pub names-at : (text : List ℕ) (n : ℕ) (starts sizes : List ℕ) (k : ℕ) → k < n
     → getD (namesAt text n starts sizes) k [] ≡ take (getD sizes k 0) (drop (getD starts k 0) text)
@@ -57,7 +34,7 @@ pub names-more : (text : List ℕ) (n : ℕ) (starts sizes : List ℕ) (start si
     → namesAt text (n + 1) (set starts n start) (set sizes n size) ≡ namesAt text n starts sizes ++ (take size (drop start text) ∷ [])
 unfolding namesAt
 names-more text n starts sizes start size h m =
-    rw (add-one, tabulate-more n (part (set starts n start) (set sizes n size)), getD-set-same starts n start 0 h, getD-set-same sizes n size 0 m)
+    rw (tabulate-next n (part (set starts n start) (set sizes n size)), getD-set-same starts n start 0 h, getD-set-same sizes n size 0 m)
     (ap (λ l. l ++ (take size (drop start text) ∷ [])) (tabulate-same n (part (set starts n start) (set sizes n size)) (part starts sizes) older))
   where
     part : List ℕ → List ℕ → ℕ → List ℕ
@@ -117,13 +94,13 @@ looks-over text n starts sizes name k i h =
 pub among-place : (x : List ℕ) (l : List (List ℕ)) → among x l ≡ ltb (placeOf x l) (length l)
 unfolding among some placeOf
 among-place x [] = refl
-among-place x (y ∷ l) = elim (split-bool (equal x y)) [
+among-place x (y ∷ l) = elim (decided (equal x y)) [
   | inl e ↦ rw (e, placeOf) (sym (lt-ltb 0 (suc (length l)) (omega arith)))
   | inr e ↦ rw (e, placeOf) (among-place x l ∙ later (placeOf x l) (length l))
 ]
   where
     later : (m n : ℕ) → ltb m n ≡ ltb (suc m) (suc n)
-    later m n = elim (split-bool (ltb m n)) [
+    later m n = elim (decided (ltb m n)) [
       | inl e ↦ e ∙ sym (lt-ltb (suc m) (suc n) (let k = ltb-true m n e in omega arith))
       | inr e ↦ e ∙ sym (le-ltb (suc m) (suc n) (let k = ltb-false m n e in omega arith))
     ]

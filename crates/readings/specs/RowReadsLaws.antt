@@ -12,11 +12,11 @@ use native.Mathlib.Omega.{arith}
 use native.Mathlib.Numerals.{add-one}
 use borrow.Author.Tests.{eqb-true, eqb-false}
 use Rattle.document.specs.Limits.{mostEvents}
-use Rattle.document.specs.Refusals.{number, Answer, taken, refused, refusalOf}
-use Rattle.document.specs.Rows.{firstRow, rows, fields, field}
-use Rattle.document.specs.Declarations.{Declared, setFrom, eventRow, declarations}
+use Rattle.document.specs.Refusals.{Answer, taken, refused, refusalOf}
+use Rattle.document.specs.Rows.{firstRow, fields, field}
+use Rattle.document.specs.Declarations.{Declared, setFrom, eventRow}
+use Rattle.basics.specs.Tests.{decided}
 use Rattle.rows.specs.declared.Fields.{Fields}
-use Rattle.rows.specs.RowsLaws.{split-bool}
 use Rattle.rows.specs.TextLaws.{row-part, row-within}
 use Rattle.rows.specs.Split.{Split}
 use Rattle.rows.specs.FieldsLaws.{split-at, split-some, split-first}
@@ -70,7 +70,7 @@ row-refused text at end t r q e h n z =
 -- one event more
 more-inside : (text starts sizes : List ℕ) (n start size : ℕ) → Inside text starts sizes → n < length starts → n < length sizes
     → start + size ≤ length text → Inside text (set starts n start) (set sizes n size)
-more-inside text starts sizes n start size i a b h = record { within = λ k. go k (split-bool (eqb k n)) }
+more-inside text starts sizes n start size i a b h = record { within = λ k. go k (decided (eqb k n)) }
   where
     go : (k : ℕ) → (eqb k n ≡ true) ⊎ (eqb k n ≡ false) → getD (set starts n start) k 0 + getD (set sizes n size) k 0 ≤ length text
     go k (inl q) = rw (eqb-true k n q, getD-set-same starts n start 0 a, getD-set-same sizes n size 0 b) h

@@ -11,13 +11,13 @@ use native.Mathlib.Omega.{arith}
 use borrow.Author.Tests.{eq-eqb, eqb-true, eqb-false, ne-eqb, leb-true, leb-false, le-leb, lt-leb, lt-ltb, le-ltb, not-true, not-false}
 use Rattle.document.specs.Lists.{every, repeated, placeOf, equal}
 use Rattle.document.specs.Limits.{width, mostEvents}
-use Rattle.document.specs.Refusals.{badShape, badName, nameTwice, overLimits, number, taken, refused, refuseIf, refusalOf}
+use Rattle.document.specs.Refusals.{badShape, badName, nameTwice, overLimits, number, taken, refuseIf, refusalOf}
 use Rattle.document.specs.RefusalsLaws.{none-refused}
 use Rattle.document.specs.Classes.{eventWord, epsilonWord}
 use Rattle.document.specs.Rows.{stray, fields, field}
 use Rattle.document.specs.Declarations.{Declared, isName, isMark, setFrom, headerRow, eventRow}
+use Rattle.basics.specs.Tests.{decided}
 use Rattle.rows.specs.declared.Fields.{Fields}
-use Rattle.rows.specs.RowsLaws.{split-bool}
 use Rattle.rows.specs.Split.{mostFields, Split}
 use Rattle.rows.specs.FieldsLaws.{split-counts, fields-some}
 use Rattle.readings.specs.declared.Reading.{Reading}
@@ -109,7 +109,7 @@ count-right text t row f p s e =
 
 count-wrong : (text : List ℕ) (t : Reading) (row : List ℕ) (f : Fields) → Placed text t → Split row f → (f .count ≡ t .parameters + 1 → ⊥)
     → eqb (length (drop 1 (fields row))) (t .parameters) ≡ false
-count-wrong text t row f p s n = ne-eqb (length (drop 1 (fields row))) (t .parameters) (λ e. go (rw length-drop at e) (split-bool (leb (f .count) mostFields)))
+count-wrong text t row f p s n = ne-eqb (length (drop 1 (fields row))) (t .parameters) (λ e. go (rw length-drop at e) (decided (leb (f .count) mostFields)))
   where
     go : length (fields row) - 1 ≡ t .parameters → (leb (f .count) mostFields ≡ true) ⊎ (leb (f .count) mostFields ≡ false) → ⊥
     go e (inl q) = let m = split-counts row f s .few (leb-true (f .count) mostFields q) in let k = fields-some row in n (omega arith)
@@ -186,14 +186,14 @@ event-takes text t row p h =
 -- and then there was a place for the event, and its fields are as many as the parameters and one
 pub event-fits : (text : List ℕ) (t : Reading) (row : List ℕ) (q : ℕ) → Placed text t → q ≡ refusalOf (eventRow (said text t) row) → q ≡ 0
     → t .events < mostEvents
-event-fits text t row q p h n = elim (split-bool (leb mostEvents (t .events))) [
+event-fits text t row q p h n = elim (decided (leb mostEvents (t .events))) [
   | inl e ↦ let z = rw (event-is text t row p, e) at h in absurd (omega arith)
   | inr e ↦ leb-false mostEvents (t .events) e
 ]
 
 pub event-fields : (text : List ℕ) (t : Reading) (row : List ℕ) (f : Fields) (q : ℕ) → Placed text t → Split row f
     → q ≡ refusalOf (eventRow (said text t) row) → q ≡ 0 → f .count ≤ mostFields
-event-fields text t row f q p s h n = elim (split-bool (eqb (f .count) (t .parameters + 1))) [
+event-fields text t row f q p s h n = elim (decided (eqb (f .count) (t .parameters + 1))) [
   | inl e ↦ let v = eqb-true (f .count) (t .parameters + 1) e in let l = p .fewParameters in omega arith
   | inr e ↦ absurd (wrong (count-wrong text t row f p s (eqb-false (f .count) (t .parameters + 1) e)))
 ]
@@ -212,7 +212,7 @@ event-fields text t row f q p s h n = elim (split-bool (eqb (f .count) (t .param
         none (stray row) z
 
 pub header-fields : (row : List ℕ) (f : Fields) → Split row f → 0 ≡ refusalOf (headerRow row) → f .count ≤ mostFields
-header-fields row f s h = elim (split-bool (leb (f .count) mostFields)) [
+header-fields row f s h = elim (decided (leb (f .count) mostFields)) [
   | inl e ↦ leb-true (f .count) mostFields e
   | inr e ↦ let z = header-many row f s (leb-false (f .count) mostFields e) in absurd (omega arith)
 ]

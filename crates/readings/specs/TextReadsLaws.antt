@@ -1,6 +1,6 @@
 -- Laws of reading the whole text: the header, then event after event, then the end.
 -- Assumes nothing.
-use Prim.Native.Nat.{ℕ, suc, _+_, _-_, _≤_, _<_}
+use Prim.Native.Nat.{ℕ, _+_, _-_, _≤_, _<_}
 use mathlib.Core.Path.{_≡_, refl, sym, ap, _∙_}
 use mathlib.Core.Logic.{_⊎_, inl, inr}
 use mathlib.Core.Bool.{true, false}
@@ -17,11 +17,11 @@ use Rattle.document.specs.RefusalsLaws.{number-some}
 use Rattle.document.specs.Rows.{firstRow, afterRow, rows, fields}
 use Rattle.document.specs.Log.{nextAt}
 use Rattle.document.specs.Declarations.{Declared, headerRow, eventRow, eventRows, noEvents, declarations}
+use Rattle.basics.specs.Tests.{decided}
+use Rattle.basics.specs.Lists.{zero-at}
 use Rattle.rows.specs.declared.Fields.{Fields}
 use Rattle.rows.specs.TextLaws.{row-part, rows-over, rows-next, drop-next, next-later}
-use Rattle.rows.specs.RowsLaws.{split-bool}
 use Rattle.rows.specs.Split.{Split}
-use Rattle.rows.specs.SplitLaws.{zero-at}
 use Rattle.rows.specs.FieldsLaws.{split-counts}
 use Rattle.readings.specs.declared.Reading.{Reading}
 use Rattle.readings.specs.Readings.{padded, Stands, ReadAs, rowStart, AtRows, Reads, Placed, said, noneRead, RowAs, Follows, RowReads}
@@ -127,7 +127,7 @@ unfolding rowStart
 next-start text at next n m a e k = e ∙ ap (nextAt text) a ∙ rw (k, add-one)
 
 more-at : (text : List ℕ) (at : ℕ) (t m : Reading) → Going text at t → Placed text m → Follows at t m → AtRows text m
-more-at text at t m g p f = record { begin = λ k h. rw (f .starts) (go k h (split-bool (eqb k (t .events)))) }
+more-at text at t m g p f = record { begin = λ k h. rw (f .starts) (go k h (decided (eqb k (t .events)))) }
   where
     go : (k : ℕ) → k < m .events → (eqb k (t .events) ≡ true) ⊎ (eqb k (t .events) ≡ false) → getD (set (t .starts) (t .events) at) k 0 ≡ rowStart text k
     go k h (inl e) =

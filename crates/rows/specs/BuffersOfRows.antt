@@ -13,7 +13,8 @@ use borrow.Author.Tests.{leb-true, leb-false}
 use native.Mathlib.Omega.{arith}
 use Rattle.document.specs.Classes.{cr, lf}
 use Rattle.document.specs.Rows.{endsRow, firstRow, afterRow, rows}
-use Rattle.rows.specs.RowsLaws.{first-ends, first-more, after-ends, after-more, ends-two, split-bool, after-row}
+use Rattle.basics.specs.Tests.{decided}
+use Rattle.rows.specs.RowsLaws.{first-ends, first-more, after-ends, after-more, ends-two, after-row}
 use Rattle.rows.specs.TextLaws.{rows-over}
 use Rattle.rows.specs.RunsOfRows.{rows-some}
 
@@ -34,7 +35,7 @@ whole-rest b t e h = let k : length (firstRow (b ∷ t)) < length (b ∷ t) = h 
 
 pub whole-first : (t u : List ℕ) → Whole t → firstRow (t ++ u) ≡ firstRow t
 whole-first [] u h = absurd (omega arith)
-whole-first (b ∷ t) u h = elim (split-bool (endsRow b t)) [
+whole-first (b ∷ t) u h = elim (decided (endsRow b t)) [
   | inl e ↦ let k = ends-two b t e in first-ends b (t ++ u) (ends-held b t u k ∙ e) ∙ sym (first-ends b t e)
   | inr e ↦
       let w = whole-rest b t e h in
@@ -47,7 +48,7 @@ drop-held (b ∷ t) u h = refl
 
 pub whole-after : (t u : List ℕ) → Whole t → afterRow (t ++ u) ≡ afterRow t ++ u
 whole-after [] u h = absurd (omega arith)
-whole-after (b ∷ t) u h = elim (split-bool (endsRow b t)) [
+whole-after (b ∷ t) u h = elim (decided (endsRow b t)) [
   | inl e ↦
       let k = ends-two b t e in
       after-ends b (t ++ u) (ends-held b t u k ∙ e) ∙ drop-held t u k ∙ ap (λ l. l ++ u) (sym (after-ends b t e))
@@ -69,7 +70,7 @@ abbrev pub Open : List ℕ → Type 0
 Open t = length t ≤ length (firstRow t)
 
 open-goes-on : (b : ℕ) (t : List ℕ) → Open (b ∷ t) → endsRow b t ≡ false
-open-goes-on b t h = elim (split-bool (endsRow b t)) [
+open-goes-on b t h = elim (decided (endsRow b t)) [
   | inl e ↦ absurd (let k : length (b ∷ t) ≤ length (firstRow (b ∷ t)) = h in let j = rw (first-ends b t e) at k in omega arith)
   | inr e ↦ e
 ]
@@ -98,7 +99,7 @@ open-after (suc k) (b ∷ t) u h l =
 
 -- a part that is held is one or the other
 pub whole-or-open : (t : List ℕ) → Whole t ⊎ Open t
-whole-or-open t = elim (split-bool (leb (length t) (length (firstRow t)))) [
+whole-or-open t = elim (decided (leb (length t) (length (firstRow t)))) [
   | inl e ↦ inr (leb-true (length t) (length (firstRow t)) e)
   | inr e ↦ inl (leb-false (length t) (length (firstRow t)) e)
 ]

@@ -13,7 +13,8 @@ use native.Mathlib.Omega.{arith}
 use borrow.Author.Tests.{eq-eqb, ne-eqb, leb-true, leb-false}
 use Rattle.document.specs.Classes.{comma}
 use Rattle.document.specs.Rows.{partsFrom, parts, partOf, fields, field}
-use Rattle.rows.specs.RowsLaws.{drop-here, drop-end, split-bool}
+use Rattle.basics.specs.Tests.{decided}
+use Rattle.rows.specs.RowsLaws.{drop-here, drop-end}
 use Rattle.rows.specs.Split.{upToComma}
 use Rattle.rows.specs.SplitLaws.{partsAfter, field-there, fields-after, fields-over, end-within}
 use Rattle.rows.specs.FieldsLaws.{fields-length}
@@ -38,7 +39,7 @@ commas-over s i h = rw (drop-end s i h)
 parts-count : (start at : ℕ) (r : List ℕ) → length (partsFrom start at r) ≡ suc (commas r)
 unfolding partsFrom commas
 parts-count start at [] = refl
-parts-count start at (b ∷ r) = elim (split-bool (eqb b comma)) [
+parts-count start at (b ∷ r) = elim (decided (eqb b comma)) [
   | inl e ↦ rw (e, partsFrom, commas) (ap suc (parts-count (at + 1) (at + 1) r))
   | inr e ↦ rw (e, partsFrom, commas) (parts-count start (at + 1) r)
 ]
@@ -65,7 +66,7 @@ reached-after row k end r = ap (drop 1) (rw (field-there row (r .start)) at (r .
 
 -- where a field follows, a comma stands at the end of this one
 pub reached-comma : (row : List ℕ) (k end : ℕ) → Reached row k end → k + 1 < length (fields row) → end < length row
-reached-comma row k end r h = elim (split-bool (leb (length row) end)) [
+reached-comma row k end r h = elim (decided (leb (length row) end)) [
   | inl e ↦
       let o = fields-over row (r .start) end (r .ends) (leb-true (length row) end e) in
       let z : [] ≡ drop (k + 1) (fields row) = rw o at (reached-after row k end r) in

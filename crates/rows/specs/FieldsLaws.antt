@@ -11,8 +11,8 @@ use lib.Dec.{leb}
 use native.Mathlib.Omega.{arith}
 use borrow.Author.Tests.{leb-true, leb-false, lt-leb}
 use Rattle.document.specs.Rows.{Part, parts, partOf, fields, field}
+use Rattle.basics.specs.Tests.{decided}
 use Rattle.rows.specs.declared.Fields.{Fields}
-use Rattle.rows.specs.RowsLaws.{split-bool}
 use Rattle.rows.specs.Split.{mostFields, added, collected, noFields, Split}
 use Rattle.rows.specs.Places.{noPart}
 use Rattle.rows.specs.SplitLaws.{field-there}
@@ -43,7 +43,7 @@ collected-none f = refl
 
 collected-count : (f : Fields) (l : List Part) → f .count ≤ mostFields + 1 → Counts (f .count + length l) (collected f l .count)
 collected-count f [] h = rw (collected-none f) (record { few = λ (k : f .count ≤ mostFields). omega arith; many = λ (k : mostFields < f .count). omega arith })
-collected-count f (p ∷ l) h = elim (split-bool (leb mostFields (f .count))) [
+collected-count f (p ∷ l) h = elim (decided (leb mostFields (f .count))) [
   | inl e ↦
       let g = counted f in
       let k = leb-true mostFields (f .count) e in
@@ -69,7 +69,7 @@ pub record Same (k : ℕ) (f g : Fields) : Type 0 where
 
 collected-keeps : (f : Fields) (l : List Part) (k : ℕ) → f .count ≤ mostFields + 1 → k < f .count → Same k (collected f l) f
 collected-keeps f [] k m h = rw (collected-none f) (record { start = refl; size = refl })
-collected-keeps f (p ∷ l) k m h = elim (split-bool (leb mostFields (f .count))) [
+collected-keeps f (p ∷ l) k m h = elim (decided (leb mostFields (f .count))) [
   | inl e ↦
       let g = counted f in
       let i = collected-keeps g l k (omega arith) (omega arith) in
@@ -121,7 +121,7 @@ unfolding parts
 fields-some row = rw (fields-length row, field-there row 0) (omega arith)
 
 pub split-some : (row : List ℕ) (f : Fields) → Split row f → 1 ≤ f .count
-split-some row f s = elim (split-bool (leb (f .count) mostFields)) [
+split-some row f s = elim (decided (leb (f .count) mostFields)) [
   | inl e ↦ let k = fields-some row in let c = split-counts row f s .few (leb-true (f .count) mostFields e) in omega arith
   | inr e ↦ let c = leb-false (f .count) mostFields e in omega arith
 ]

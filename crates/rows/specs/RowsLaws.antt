@@ -1,12 +1,12 @@
 -- Laws of rows: what one byte more means for where a row ends, whether a test finds a byte, whether two parts are the same.
 -- Each speaks of what is left of a list from a place on, as a loop over the list meets it.
 -- Assumes nothing.
-use Prim.Native.Nat.{ℕ, zero, suc, _+_, _-_, _≤_, _<_}
+use Prim.Native.Nat.{ℕ, _+_, _≤_, _<_}
 use mathlib.Core.Path.{_≡_, refl, sym, ap, _∙_}
-use mathlib.Core.Logic.{_⊎_, inl, inr}
+use mathlib.Core.Logic.{inl, inr}
 use mathlib.Core.Bool.{Bool, true, false, _&&_, _||_, and-false}
 use mathlib.Core.List.{List, [], _∷_}
-use lib.ListN.{length, getD, take, drop, drop-of-length-le, length-drop}
+use lib.ListN.{length, getD, drop, drop-of-length-le, length-drop}
 use lib.Seq.{drop-cons}
 use lib.Dec.{eqb}
 use native.Mathlib.Omega.{arith}
@@ -16,6 +16,7 @@ use Rattle.document.specs.Lists.{some, equal}
 use Rattle.document.specs.Classes.{cr, lf}
 use Rattle.document.specs.Rows.{endsRow, firstRow, afterRow, stray}
 use Rattle.document.specs.Log.{nextAt}
+use Rattle.basics.specs.Tests.{decided}
 
 -- what is left from a place inside is the element there and what is left after it
 pub drop-here : (s : List ℕ) (i : ℕ) → i < length s → drop i s ≡ getD s i 0 ∷ drop (i + 1) s
@@ -69,14 +70,10 @@ unfolding endsRow
 ends-two b [] e = let z : _≡_ {A = ℕ} 0 1 = cc in absurd (omega arith)
 ends-two b (c ∷ t) e = omega arith
 
-pub split-bool : (b : Bool) → (b ≡ true) ⊎ (b ≡ false)
-split-bool true = inl refl
-split-bool false = inr refl
-
 -- a row that does not reach the text's end has a line end, of two bytes, after it
 pub after-row : (t : List ℕ) → length (firstRow t) < length t → length (afterRow t) + (length (firstRow t) + 2) ≡ length t
 after-row [] h = absurd (omega arith)
-after-row (b ∷ t) h = elim (split-bool (endsRow b t)) [
+after-row (b ∷ t) h = elim (decided (endsRow b t)) [
   | inl e ↦ rw (first-ends b t e, after-ends b t e, length-drop) (let k = ends-two b t e in omega arith)
   | inr e ↦
       let m : length (firstRow t) < length t = let k : length (firstRow (b ∷ t)) < length (b ∷ t) = h in let j = rw (first-more b t e) at k in omega arith in
@@ -87,7 +84,7 @@ after-row (b ∷ t) h = elim (split-bool (endsRow b t)) [
 pub after-last : (t : List ℕ) → length t ≤ length (firstRow t) → afterRow t ≡ []
 unfolding afterRow
 after-last [] h = refl
-after-last (b ∷ t) h = elim (split-bool (endsRow b t)) [
+after-last (b ∷ t) h = elim (decided (endsRow b t)) [
   | inl e ↦ absurd (let k : length (b ∷ t) ≤ length (firstRow (b ∷ t)) = h in let j = rw (first-ends b t e) at k in omega arith)
   | inr e ↦
       let m : length t ≤ length (firstRow t) = let k : length (b ∷ t) ≤ length (firstRow (b ∷ t)) = h in let j = rw (first-more b t e) at k in omega arith in

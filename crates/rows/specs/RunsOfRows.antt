@@ -11,7 +11,8 @@ use lib.Seq.{take-nil}
 use native.Mathlib.Omega.{arith}
 use Rattle.document.specs.Rows.{endsRow, firstRow, afterRow, rowsWithin, rows}
 use Rattle.document.specs.Log.{rowAt, nextAt, rowsBetween}
-use Rattle.rows.specs.RowsLaws.{first-ends, first-more, after-ends, after-more, ends-two, split-bool}
+use Rattle.basics.specs.Tests.{decided}
+use Rattle.rows.specs.RowsLaws.{first-ends, first-more, after-ends, after-more, ends-two}
 use Rattle.rows.specs.TextLaws.{after-within, after-shorter, drop-next, next-within, next-later, rows-next}
 
 -- A part that begins with the first row and its line end --------------------------------------------------------------
@@ -39,7 +40,7 @@ unfolding firstRow
 part-first [] zero h = refl
 part-first [] (suc n) h = refl
 part-first (b ∷ t) zero h = let k = after-shorter b t in absurd (omega arith)
-part-first (b ∷ t) (suc n) h = elim (split-bool (endsRow b t)) [
+part-first (b ∷ t) (suc n) h = elim (decided (endsRow b t)) [
   | inl e ↦
       let j = ends-two b t e in
       let i : suc (length t) - (length t - 1) ≤ suc n = rw (after-ends b t e, length-drop) at h in
@@ -63,7 +64,7 @@ unfolding afterRow
 part-after [] zero h = refl
 part-after [] (suc n) h = sym (take-nil (suc n - 0))
 part-after (b ∷ t) zero h = let k = after-shorter b t in absurd (omega arith)
-part-after (b ∷ t) (suc n) h = elim (split-bool (endsRow b t)) [
+part-after (b ∷ t) (suc n) h = elim (decided (endsRow b t)) [
   | inl e ↦
       let j = ends-two b t e in
       let i : suc (length t) - (length t - 1) ≤ suc n = rw (after-ends b t e, length-drop) at h in
@@ -142,8 +143,3 @@ pub passes-cut : {log : List ℕ} {at to : ℕ} {l : List (List ℕ)} → Passes
 unfolding rowAt
 passes-cut atOnce = refl
 passes-cut {log} (rowFirst {at} h q) = rows-next log at h ∙ ap (λ l. rowAt log at ∷ l) (passes-cut q)
-
-pub passes-append : {log : List ℕ} {at mid to : ℕ} {l m : List (List ℕ)} → Passes log at mid l → Passes log mid to m
-    → Passes log at to (l ++ m)
-passes-append atOnce r = r
-passes-append (rowFirst h q) r = rowFirst h (passes-append q r)

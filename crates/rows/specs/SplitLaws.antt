@@ -1,12 +1,11 @@
 -- Laws of fields: how the parts of a row go on after a comma, and what the collected fields say of them.
 -- Assumes nothing.
-use Prim.Native.Nat.{ℕ, zero, suc, _+_, _-_, _≤_, _<_}
-use mathlib.Core.Path.{_≡_, refl, sym, ap, ap₂, _∙_}
+use Prim.Native.Nat.{ℕ, suc, _+_, _-_, _≤_, _<_}
+use mathlib.Core.Path.{_≡_, refl, sym, ap, _∙_}
 use mathlib.Core.Logic.{_⊎_, inl, inr}
-use mathlib.Core.Bool.{Bool, true, false}
+use mathlib.Core.Bool.{true, false}
 use mathlib.Core.List.{List, [], _∷_}
-use mathlib.Core.List as list
-use lib.ListN.{length, getD, take, drop, set, replicate, length-drop, length-set, List·getD-map}
+use lib.ListN.{length, getD, take, drop, set, length-drop, length-set, List·getD-map}
 use denote.Ref.{RefT}
 use lib.Seq.{drop-drop, getD-set-same, getD-set-other}
 use lib.Dec.{eqb, leb}
@@ -14,8 +13,10 @@ use native.Mathlib.Omega.{arith}
 use borrow.Author.Tests.{eq-eqb, ne-eqb, leb-false, eqb-true, eqb-false}
 use Rattle.document.specs.Classes.{comma}
 use Rattle.document.specs.Rows.{Part, partsFrom, parts, partOf, fields, field}
+use Rattle.basics.specs.Tests.{decided}
+use Rattle.basics.specs.Lists.{zero-at}
 use Rattle.rows.specs.declared.Fields.{Fields}
-use Rattle.rows.specs.RowsLaws.{drop-here, drop-end, split-bool}
+use Rattle.rows.specs.RowsLaws.{drop-here, drop-end}
 use Rattle.rows.specs.Split.{upToComma, mostFields, added, collected, noFields, Split}
 use Rattle.rows.specs.Places.{PartAt, noPart, fieldPart}
 
@@ -35,7 +36,7 @@ comma-never s i h = rw (drop-end s i h)
 pub up-to-within : (r : List ℕ) → upToComma r ≤ length r
 unfolding upToComma
 up-to-within [] = omega arith
-up-to-within (b ∷ r) = elim (split-bool (eqb b comma)) [
+up-to-within (b ∷ r) = elim (decided (eqb b comma)) [
   | inl e ↦ rw (e, upToComma) (omega arith)
   | inr e ↦ rw (e, upToComma) (let k = up-to-within r in omega arith)
 ]
@@ -48,7 +49,7 @@ partsAfter at (b ∷ r) = elim (eqb b comma) [ true ↦ partsFrom (at + 1) (at +
 pub parts-first : (start at : ℕ) (r : List ℕ) → partsFrom start at r ≡ record { start = start; size = at + upToComma r - start } ∷ partsAfter at r
 unfolding partsFrom partsAfter upToComma
 parts-first start at [] = let e : at + 0 - start ≡ at - start = omega arith in rw e
-parts-first start at (b ∷ r) = elim (split-bool (eqb b comma)) [
+parts-first start at (b ∷ r) = elim (decided (eqb b comma)) [
   | inl e ↦ let k : at + 0 - start ≡ at - start = omega arith in rw (e, partsFrom, partsAfter, upToComma, k)
   | inr e ↦ let k : at + suc (upToComma r) ≡ at + 1 + upToComma r = omega arith in rw (e, partsFrom, partsAfter, upToComma, k) (parts-first start (at + 1) r)
 ]
@@ -57,7 +58,7 @@ pub parts-rest : (at : ℕ) (r : List ℕ) → upToComma r < length r
     → partsAfter at r ≡ partsFrom (at + upToComma r + 1) (at + upToComma r + 1) (drop (upToComma r + 1) r)
 unfolding partsAfter upToComma
 parts-rest at [] h = absurd (omega arith)
-parts-rest at (b ∷ r) h = elim (split-bool (eqb b comma)) [
+parts-rest at (b ∷ r) h = elim (decided (eqb b comma)) [
   | inl e ↦ let k : at + 0 + 1 ≡ at + 1 = omega arith in rw (e, partsAfter, upToComma, k)
   | inr e ↦
       let m : upToComma r < length r = let g = rw (e, upToComma) at h in omega arith in
@@ -69,7 +70,7 @@ parts-rest at (b ∷ r) h = elim (split-bool (eqb b comma)) [
 pub parts-none : (at : ℕ) (r : List ℕ) → length r ≤ upToComma r → partsAfter at r ≡ []
 unfolding partsAfter upToComma
 parts-none at [] h = refl
-parts-none at (b ∷ r) h = elim (split-bool (eqb b comma)) [
+parts-none at (b ∷ r) h = elim (decided (eqb b comma)) [
   | inl e ↦ absurd (let g = rw (e, upToComma) at h in omega arith)
   | inr e ↦ let m : length r ≤ upToComma r = let g = rw (e, upToComma) at h in omega arith in rw (e, partsAfter) (parts-none (at + 1) r m)
 ]
@@ -186,9 +187,9 @@ pub record Collects (row : List ℕ) (start end : ℕ) (f : Fields) : Type 0 whe
 added-inside : (n : ℕ) (f : Fields) (p : Part) → p .start + p .size ≤ n → length (f .starts) ≡ mostFields → length (f .sizes) ≡ mostFields
     → ((k : ℕ) → getD (f .starts) k 0 + getD (f .sizes) k 0 ≤ n) → (k : ℕ) → getD (added f p .starts) k 0 + getD (added f p .sizes) k 0 ≤ n
 unfolding added
-added-inside n f p h a b i k = elim (split-bool (leb mostFields (f .count))) [
+added-inside n f p h a b i k = elim (decided (leb mostFields (f .count))) [
   | inl e ↦ rw e (i k)
-  | inr e ↦ rw e (go (leb-false mostFields (f .count) e) (split-bool (eqb k (f .count))))
+  | inr e ↦ rw e (go (leb-false mostFields (f .count) e) (decided (eqb k (f .count))))
 ]
   where
     go : f .count < mostFields → (eqb k (f .count) ≡ true) ⊎ (eqb k (f .count) ≡ false)
@@ -198,16 +199,11 @@ added-inside n f p h a b i k = elim (split-bool (leb mostFields (f .count))) [
 
 added-places : (f : Fields) (p : Part) → length (added f p .starts) ≡ length (f .starts)
 unfolding added
-added-places f p = elim (split-bool (leb mostFields (f .count))) [ inl e ↦ rw e | inr e ↦ rw e (length-set (f .starts) (f .count) (p .start)) ]
+added-places f p = elim (decided (leb mostFields (f .count))) [ inl e ↦ rw e | inr e ↦ rw e (length-set (f .starts) (f .count) (p .start)) ]
 
 added-spans : (f : Fields) (p : Part) → length (added f p .sizes) ≡ length (f .sizes)
 unfolding added
-added-spans f p = elim (split-bool (leb mostFields (f .count))) [ inl e ↦ rw e | inr e ↦ rw e (length-set (f .sizes) (f .count) (p .size)) ]
-
-pub zero-at : (n k : ℕ) → _≡_ {A = ℕ} (getD (replicate n 0) k 0) 0
-zero-at zero k = refl
-zero-at (suc n) zero = refl
-zero-at (suc n) (suc k) = zero-at n k
+added-spans f p = elim (decided (leb mostFields (f .count))) [ inl e ↦ rw e | inr e ↦ rw e (length-set (f .sizes) (f .count) (p .size)) ]
 
 pub collects-first : (row : List ℕ) (end : ℕ) (f : Fields) → end ≡ 0 + upToComma (drop 0 row)
     → f ≡ added noFields (record { start = 0; size = end - 0 }) → Collects row 0 end f

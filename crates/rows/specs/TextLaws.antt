@@ -10,13 +10,14 @@ use lib.Seq.{drop-drop}
 use native.Mathlib.Omega.{arith}
 use Rattle.document.specs.Rows.{endsRow, firstRow, afterRow, rowsWithin, rows}
 use Rattle.document.specs.Log.{nextAt}
-use Rattle.rows.specs.RowsLaws.{drop-here, drop-end, first-ends, first-more, after-ends, after-more, ends-two, split-bool}
+use Rattle.basics.specs.Tests.{decided}
+use Rattle.rows.specs.RowsLaws.{drop-here, drop-end, first-ends, first-more, after-ends, after-more, ends-two}
 
 -- a row is the part of the text from its start on that is as long as it
 pub first-within : (t : List ℕ) → length (firstRow t) ≤ length t
 unfolding firstRow
 first-within [] = omega arith
-first-within (b ∷ t) = elim (split-bool (endsRow b t)) [
+first-within (b ∷ t) = elim (decided (endsRow b t)) [
   | inl e ↦ rw (first-ends b t e) (omega arith)
   | inr e ↦ rw (first-more b t e) (let k = first-within t in omega arith)
 ]
@@ -24,7 +25,7 @@ first-within (b ∷ t) = elim (split-bool (endsRow b t)) [
 pub first-part : (t : List ℕ) → take (length (firstRow t)) t ≡ firstRow t
 unfolding firstRow
 first-part [] = refl
-first-part (b ∷ t) = elim (split-bool (endsRow b t)) [
+first-part (b ∷ t) = elim (decided (endsRow b t)) [
   | inl e ↦ rw (first-ends b t e)
   | inr e ↦ rw (first-more b t e, first-part t)
 ]
@@ -33,13 +34,13 @@ first-part (b ∷ t) = elim (split-bool (endsRow b t)) [
 pub after-within : (t : List ℕ) → length (afterRow t) ≤ length t
 unfolding afterRow
 after-within [] = omega arith
-after-within (b ∷ t) = elim (split-bool (endsRow b t)) [
+after-within (b ∷ t) = elim (decided (endsRow b t)) [
   | inl e ↦ rw (after-ends b t e, length-drop) (omega arith)
   | inr e ↦ rw (after-more b t e) (let k = after-within t in omega arith)
 ]
 
 pub after-shorter : (b : ℕ) (t : List ℕ) → length (afterRow (b ∷ t)) ≤ length t
-after-shorter b t = elim (split-bool (endsRow b t)) [
+after-shorter b t = elim (decided (endsRow b t)) [
   | inl e ↦ rw (after-ends b t e, length-drop) (omega arith)
   | inr e ↦ rw (after-more b t e) (after-within t)
 ]
@@ -47,7 +48,7 @@ after-shorter b t = elim (split-bool (endsRow b t)) [
 after-drop : (t : List ℕ) → drop (length t - length (afterRow t)) t ≡ afterRow t
 unfolding afterRow
 after-drop [] = refl
-after-drop (b ∷ t) = elim (split-bool (endsRow b t)) [
+after-drop (b ∷ t) = elim (decided (endsRow b t)) [
   | inl e ↦
       let k : suc (length t) - (length t - 1) ≡ 2 = let j = ends-two b t e in omega arith in
       rw (after-ends b t e, length-drop, k)

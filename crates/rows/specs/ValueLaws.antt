@@ -13,16 +13,13 @@ use Rattle.document.specs.Lists.{every}
 use Rattle.document.specs.Limits.{largestValue}
 use Rattle.document.specs.Classes.{classOf, isDigit, between, zeroByte}
 use Rattle.document.specs.Rows.{decimalFrom, valueOf}
-use Rattle.rows.specs.RowsLaws.{drop-here, drop-end, split-bool}
+use Rattle.basics.specs.Tests.{decided, both}
+use Rattle.rows.specs.RowsLaws.{drop-here, drop-end}
 
 -- a class that is picked from classes other than a digit's is none
 neither : (x : Bool) (n k : ℕ) → eqb n 1 ≡ false → eqb k 1 ≡ false → eqb (cond x n k) 1 ≡ false
 neither true n k p q = p
 neither false n k p q = q
-
-both : (x y : Bool) → (x && y) ≡ true → (x ≡ true) × (y ≡ true)
-both true y q = (refl, q)
-both false y q = let z : _≡_ {A = ℕ} 0 1 = cc in absurd (omega arith)
 
 no-digit : (b : ℕ) → between 48 57 b ≡ false → isDigit b ≡ false
 unfolding classOf
@@ -41,7 +38,7 @@ no-digit b e = rw e
 -- a byte is a digit exactly from `0` to `9`: the class by two comparisons
 pub digit-between : (b : ℕ) → isDigit b ≡ between 48 57 b
 unfolding classOf
-digit-between b = elim (split-bool (between 48 57 b)) [
+digit-between b = elim (decided (between 48 57 b)) [
   | inl e ↦
       let p = both (leb 48 b) (leb b 57) e in
       let l = leb-true b 57 (p .1) in

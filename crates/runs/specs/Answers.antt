@@ -1,6 +1,6 @@
--- Answers that are taken, or refused, and what they had to pass: a test of a refusal, a call before, the rooms of an event.
+-- Answers that are refused, and by what: the first test or a later one, a call before, the rooms of an event.
 -- Assumes nothing.
-use Prim.Native.Nat.{ℕ, _≤_, _<_}
+use Prim.Native.Nat.{ℕ, _<_}
 use mathlib.Core.Path.{_≡_, refl}
 use mathlib.Core.Logic.{_⊎_, inl, inr}
 use mathlib.Core.Bool.{Bool, true, false}
@@ -8,17 +8,11 @@ use mathlib.Core.List.{List}
 use native.Mathlib.Omega.{arith}
 use lib.ListN.{length, drop}
 use lib.Dec.{ltb}
-use borrow.Author.Tests.{ltb-true, ltb-false}
+use borrow.Author.Tests.{ltb-true}
 use Rattle.document.specs.Refusals.{Refusal, noRoomForSeen, noRoomForKept, noRoomForReports, Answer, taken, refused, refuseIf, andThen}
 use Rattle.document.specs.Property.{Property}
 use Rattle.document.specs.Tables.{seenRoom, keptRoom, reportRoom}
-use Rattle.document.specs.Session.{Session, Happened, Outcome, written, withinRooms}
-
--- what is taken passed the first test
-pub past-test : {A : Type 0} (t : Bool) (r : Refusal) (a : Answer A) (x : A) → refuseIf t r a ≡ taken x
-    → (t ≡ false) × (a ≡ taken x)
-past-test true r a x e = let z : _≡_ {A = ℕ} 0 1 = cc in absurd (omega arith)
-past-test false r a x e = (refl, e)
+use Rattle.document.specs.Session.{Session, Outcome, written, withinRooms}
 
 -- what is refused was refused by the first test, or later
 pub by-test : {A : Type 0} (t : Bool) (q : Refusal) (a : Answer A) (r : Refusal) (o : ℕ) → refuseIf t q a ≡ refused r o
@@ -26,47 +20,12 @@ pub by-test : {A : Type 0} (t : Bool) (q : Refusal) (a : Answer A) (r : Refusal)
 by-test true q a r o e = let z : r ≡ q = cc in inl (z, refl)
 by-test false q a r o e = inr e
 
--- what follows a call that is taken
-pub past-call : {A B : Type 0} (a : Answer A) (f : A → Answer B) (y : B) → andThen a f ≡ taken y
-    → (x : A) × (a ≡ taken x) × (f x ≡ taken y)
-past-call (taken x) f y e = (x, refl, e)
-past-call (refused r o) f y e = let z : _≡_ {A = ℕ} 0 1 = cc in absurd (omega arith)
-
 pub by-call : {A B : Type 0} (a : Answer A) (f : A → Answer B) (r : Refusal) (o : ℕ) → andThen a f ≡ refused r o
     → (a ≡ refused r o) ⊎ ((x : A) × (a ≡ taken x) × (f x ≡ refused r o))
 by-call (taken x) f r o e = inr (x, refl, e)
 by-call (refused q i) f r o e = let a : q ≡ r = cc in let b : i ≡ o = cc in inl (λ j. refused (a j) (b j))
 
-pub taken-one : {A : Type 0} {x y : A} → taken x ≡ taken y → x ≡ y
-taken-one e = cc
-
--- an event that is taken found room for all that it comes to, and wrote it down
-pub record InRoom (from : ℕ) (p : Property) (s : Session) (reports : List ℕ) (o : Outcome) (h : Happened) : Type 0 where
-  pub seenFit : length (o .seen) ≤ seenRoom (s .seen)
-  pub keptFit : length (o .kept) ≤ keptRoom (s .kept)
-  pub reportsFit : length (o .rows) ≤ reportRoom (drop from reports)
-  pub is : written from p s reports o ≡ h
-
-pub in-room : (from : ℕ) (p : Property) (s : Session) (reports : List ℕ) (o : Outcome) (h : Happened)
-    → withinRooms from p s reports o ≡ taken h → InRoom from p s reports o h
-unfolding withinRooms
-in-room from p s reports o h q =
-    let left = written from p s reports o in
-    let fullSeen = ltb (seenRoom (s .seen)) (length (o .seen)) in
-    let fullKept = ltb (keptRoom (s .kept)) (length (o .kept)) in
-    let full = ltb (reportRoom (drop from reports)) (length (o .rows)) in
-    let third = refuseIf full noRoomForReports (taken left) in
-    let h₁ = past-test fullSeen noRoomForSeen (refuseIf fullKept noRoomForKept third) h q in
-    let h₂ = past-test fullKept noRoomForKept third h (h₁ .1) in
-    let h₃ = past-test full noRoomForReports (taken left) h (h₂ .1) in
-    record {
-      seenFit = ltb-false (seenRoom (s .seen)) (length (o .seen)) (h₁ .0);
-      keptFit = ltb-false (keptRoom (s .kept)) (length (o .kept)) (h₂ .0);
-      reportsFit = ltb-false (reportRoom (drop from reports)) (length (o .rows)) (h₃ .0);
-      is = taken-one (h₃ .1);
-    }
-
--- and one that is refused did not: 15, 16, 17
+-- an event that is refused found no room for what it comes to: 15, 16, 17
 pub out-of-room : (from : ℕ) (p : Property) (s : Session) (reports : List ℕ) (o : Outcome) (r : Refusal) (i : ℕ)
     → withinRooms from p s reports o ≡ refused r i
     → ((r ≡ noRoomForSeen) × (seenRoom (s .seen) < length (o .seen)))

@@ -16,8 +16,8 @@ use Rattle.document.specs.Property.{Property}
 use Rattle.document.specs.Session.{Session}
 use Rattle.document.specs.Log.{stepRow, rowAt, rowsBetween, Ran, ranTo, runFrom, judged, run}
 use Rattle.document.specs.Demands.{Runs}
+use Rattle.basics.specs.Tests.{decided}
 use Rattle.rows.specs.RunsOfRows.{rowsIn-count, Passes, atOnce, rowFirst, passes-rows}
-use Rattle.slices.specs.TestsLaws.{either}
 use Rattle.runs.specs.Turns.{Turns, spent, ended, stopped, passed, turns}
 
 -- The rows that are taken ----------------------------------------------------------------------------------------------
@@ -72,7 +72,7 @@ module _ (text : List ℕ) (p : Property) (s : Session) (reports log : List ℕ)
     where
       go : (a : Answer Declared) → judged text p s ≡ a → Calls (run text p s reports log at budget)
       go (refused r o) e = rw (call-refused r o e) (refusedCall e)
-      go (taken d) e = elim (either (ltb (length log) at)) [
+      go (taken d) e = elim (decided (ltb (length log) at)) [
         | inl t ↦ let h = ltb-true (length log) at t in rw (call-past d e h) (pastLog e h)
         | inr t ↦ let h = ltb-false (length log) at t in rw (call-runs d e h) (takenCall e h)
       ]

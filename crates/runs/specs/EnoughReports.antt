@@ -15,12 +15,13 @@ use Rattle.document.specs.Refusals.{badProperty, noRoomForSeen, noRoomForKept, 
 use Rattle.document.specs.Declarations.{Declared}
 use Rattle.document.specs.Property.{Property, inRange}
 use Rattle.document.specs.Tables.{keptRows, keptRoom, reportRoom}
-use Rattle.document.specs.Session.{Session, Happened, keptOf, sessionWith, lentTables, firstKept, start, outcome, written, stepFrom, leaves}
+use Rattle.document.specs.Session.{Session, Happened, sessionWith, lentTables, firstKept, start, outcome, written, stepFrom, leaves}
 use Rattle.document.specs.Log.{rowEvent, stepRow}
 use Rattle.document.specs.Printing.{programSession}
-use Rattle.slices.specs.ListsLaws.{length-tabulate}
-use Rattle.runs.specs.Answers.{past-test, past-call, taken-one, in-room, out-of-room}
-use Rattle.runs.specs.ReportRows.{reports-few}
+use Rattle.basics.specs.Answers.{past-test, past-call, taken-one}
+use Rattle.slices.specs.StepLaws.{length-rows, stepped}
+use Rattle.slices.specs.SessionBackLaws.{length-keptOf}
+use Rattle.runs.specs.Answers.{out-of-room}
 use Rattle.runs.specs.RowEvents.{row-refused, bytes-number}
 use Rattle.runs.specs.TwoCalls.{row-reports}
 use Rattle.runs.specs.PrintPart.{afterRows, programNumbers}
@@ -32,10 +33,6 @@ pub record Ample (s : Session) (lent : List ℕ) : Type 0 where
 
 -- Never 17 -------------------------------------------------------------------------------------------------------------
 
-kept-count : (s : Session) → length (keptOf s) ≡ s .keptCount
-unfolding keptOf keptRows
-kept-count s = length-tabulate (s .keptCount) _
-
 -- with report room for the kept rows before it, an event is not refused for want of it
 pub event-not-17 : (p : Property) (s : Session) (reports : List ℕ) (e : ℕ) (b : List ℕ) (o : ℕ) → s .keptCount ≤ reportRoom reports
     → stepFrom 0 p s reports e b ≡ refused noRoomForReports o → ⊥
@@ -44,7 +41,7 @@ event-not-17 p s reports e b o h q = elim (out-of-room 0 p s reports (outcome p 
   | inl z ↦ let x : noRoomForReports ≡ noRoomForSeen = z .0 in let y : _≡_ {A = ℕ} 0 1 = cc in omega arith
   | inr m ↦ elim m [
     | inl z ↦ let x : noRoomForReports ≡ noRoomForKept = z .0 in let y : _≡_ {A = ℕ} 0 1 = cc in omega arith
-    | inr z ↦ let few = reports-few p s e b in let k = kept-count s in let more = z .1 in omega arith
+    | inr z ↦ let few = length-rows p s e b in let k = length-keptOf s in let more = z .1 in omega arith
   ]
 ]
 
@@ -65,8 +62,8 @@ step-kept : (p : Property) (s : Session) (reports : List ℕ) (e : ℕ) (b : Lis
     → h .session .keptCount ≤ mostKept
 unfolding stepFrom written sessionWith
 step-kept p s reports e b h q =
-    let r = in-room 0 p s reports (outcome p s e b) h q in
-    rw (← (r .is)) (let i = r .keptFit in let j = keptRoom-most (s .kept) in omega arith)
+    let r = stepped 0 p s reports (outcome p s e b) h q in
+    rw (← (r .is)) (let i = r .keptRows in let j = keptRoom-most (s .kept) in omega arith)
 
 row-kept : (d : Declared) (p : Property) (s : Session) (reports bytes : List ℕ) (h : Happened) → stepRow 0 d p s reports bytes ≡ taken h
     → h .session .keptCount ≤ mostKept

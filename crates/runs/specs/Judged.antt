@@ -13,8 +13,8 @@ use Rattle.document.specs.Declarations.{Declared, declarations}
 use Rattle.document.specs.Property.{Property, inRange, setOf}
 use Rattle.document.specs.Session.{Session, sound}
 use Rattle.document.specs.Log.{agrees, judged}
+use Rattle.basics.specs.Answers.{past-test, past-call, taken-one}
 use Rattle.slices.specs.TestsLaws.{so, true-of, and-of, everyBelow-of}
-use Rattle.runs.specs.Answers.{past-test, past-call, taken-one}
 
 -- "declarations and property table differ in counts or sets" where these do not hold
 pub record Agrees (d : Declared) (p : Property) : Type 0 where

@@ -16,8 +16,8 @@ use Rattle.document.specs.Property.{Property}
 use Rattle.document.specs.Session.{Session, Happened, leaves}
 use Rattle.document.specs.Log.{stepRow, rowAt, nextAt}
 use Rattle.document.specs.Printing.{rowLines}
+use Rattle.basics.specs.Tests.{decided}
 use Rattle.rows.specs.RunsOfRows.{Passes, atOnce, rowFirst}
-use Rattle.slices.specs.TestsLaws.{either}
 use Rattle.runs.specs.PrintPart.{rowText, afterRows, PrintedTo, nothingPrinted, linesFirst, printFrom}
 
 -- Rows that follow others ----------------------------------------------------------------------------------------------
@@ -86,7 +86,7 @@ module _ (d : Declared) (p : Property) (log : List ℕ) where
       ≡ linesFirst (r .lines) (printFrom k d p log (r .next) (r .number) (r .session) (r .reports))
   unfolding printFrom
   print-append zero k at n s reports = rw zero-add
-  print-append (suc m) k at n s reports = elim (either (leb (length log) at)) [
+  print-append (suc m) k at n s reports = elim (decided (leb (length log) at)) [
     | inl e ↦
         let h = leb-true (length log) at e in
         rw (print-ended (suc m) at n s reports h) (print-ended (suc m + k) at n s reports h ∙ rw (print-ended k at n s reports h))
@@ -126,7 +126,7 @@ module _ (d : Declared) (p : Property) (log : List ℕ) where
     reports = refl;
     stops = inl refl;
   }
-  prints (suc budget) at n s reports = elim (either (leb (length log) at)) [
+  prints (suc budget) at n s reports = elim (decided (leb (length log) at)) [
     | inl e ↦ let h = leb-true (length log) at e in rw (print-ended (suc budget) at n s reports h) (record {
       covered = [];
       passes = atOnce;

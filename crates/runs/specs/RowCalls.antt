@@ -12,7 +12,7 @@ use Rattle.document.specs.Histories.{Event}
 use Rattle.document.specs.Session.{Session, Happened}
 use Rattle.document.specs.Log.{stepRow, judged, row}
 use Rattle.document.specs.Demands.{Holds, extended, Reached}
-use Rattle.runs.specs.Answers.{past-call}
+use Rattle.basics.specs.Answers.{past-call}
 use Rattle.runs.specs.Judged.{Judged, judged-of, of-judged}
 use Rattle.runs.specs.RowEvents.{Brings, row-brings, row-holds}
 use Rattle.runs.specs.RunReached.{row-reached}

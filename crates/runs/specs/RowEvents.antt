@@ -22,8 +22,9 @@ use Rattle.document.specs.Histories.{Event}
 use Rattle.document.specs.Session.{Session, Happened, outcome, stepFrom, leaves}
 use Rattle.document.specs.Log.{RowEvent, isBadValue, valuesOf, rowEvent, stepRow, agrees, row}
 use Rattle.document.specs.Demands.{Proper, Holds, extended}
+use Rattle.basics.specs.Answers.{past-test, past-call, taken-one}
 use Rattle.slices.specs.Demand3.{demand-3}
-use Rattle.runs.specs.Answers.{past-test, by-test, past-call, by-call, taken-one, out-of-room}
+use Rattle.runs.specs.Answers.{by-test, by-call, out-of-room}
 use Rattle.runs.specs.Judged.{Agrees, agrees-of}
 
 -- the values of a row are as many as a combination has

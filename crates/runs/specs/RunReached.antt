@@ -16,13 +16,13 @@ use Rattle.document.specs.Histories.{Event}
 use Rattle.document.specs.Session.{Session, Happened, stepFrom, event}
 use Rattle.document.specs.Log.{agrees, rowAt, Ran, ranTo, runFrom, run}
 use Rattle.document.specs.Demands.{Holds, extended, Reached, accepted}
+use Rattle.basics.specs.Answers.{taken-one}
 use Rattle.rows.specs.RunsOfRows.{rowsIn, rowsIn-none, passes-rows}
 use Rattle.slices.specs.Demand3.{demand-3}
 use Rattle.runs.specs.Turns.{Turns, spent, ended, stopped, passed, turns}
 use Rattle.runs.specs.Counts.{Calls, refusedCall, pastLog, takenCall, calls}
 use Rattle.runs.specs.Reports.{takenAs, inFront, step-front}
 use Rattle.runs.specs.ReportRows.{step-reports}
-use Rattle.runs.specs.Answers.{taken-one}
 use Rattle.runs.specs.Judged.{judged-of}
 use Rattle.runs.specs.RowEvents.{Brings, row-brings}
 use Rattle.runs.specs.RunHistory.{historyOf, Extends, unchanged, one-more, run-holds}

@@ -10,10 +10,10 @@ use Rattle.document.specs.Declarations.{Declared}
 use Rattle.document.specs.Property.{Property, inRange}
 use Rattle.document.specs.Session.{Session, Happened, sound, leaves}
 use Rattle.document.specs.Log.{stepRow, agrees, rowAt, Ran, ranTo, runFrom}
+use Rattle.slices.specs.StepSoundLaws.{step-sound}
 use Rattle.runs.specs.Turns.{Turns, spent, ended, stopped, passed, turns}
 use Rattle.runs.specs.RowEvents.{row-brings}
 use Rattle.runs.specs.PrintPart.{afterRows}
-use Rattle.runs.specs.SoundSteps.{step-sound}
 
 module _ (d : Declared) (p : Property) (range : inRange p ≡ true) (agree : agrees d p ≡ true) where
   pub row-sound : (from : ℕ) (s : Session) (reports bytes : List ℕ) (h : Happened) → sound p s ≡ true

@@ -14,7 +14,7 @@ use Rattle.document.specs.Declarations.{Declared}
 use Rattle.document.specs.Property.{Property}
 use Rattle.document.specs.Session.{Session, Happened}
 use Rattle.document.specs.Log.{stepRow, rowAt, nextAt, Ran, ranTo, runFrom}
-use Rattle.slices.specs.TestsLaws.{either}
+use Rattle.basics.specs.Tests.{decided}
 
 module _ (d : Declared) (p : Property) (log : List ℕ) where
   pub run-spent : (rows at : ℕ) (s : Session) (reports : List ℕ) (count : ℕ)
@@ -58,7 +58,7 @@ module _ (d : Declared) (p : Property) (log : List ℕ) where
   pub turns : (budget rows at : ℕ) (s : Session) (reports : List ℕ) (count : ℕ)
       → Turns budget rows at s reports count (runFrom budget d p log rows at s reports count)
   turns zero rows at s reports count = rw (run-spent rows at s reports count) spent
-  turns (suc budget) rows at s reports count = elim (either (leb (length log) at)) [
+  turns (suc budget) rows at s reports count = elim (decided (leb (length log) at)) [
     | inl e ↦ let h = leb-true (length log) at e in rw (run-ended (suc budget) rows at s reports count h) (ended h)
     | inr e ↦ step (leb-false (length log) at e) (stepRow (count * reportStride) d p s reports (rowAt log at)) refl
         (λ h. turns budget (rows + 1) (nextAt log at) (h .session) (h .reports) (count + h .reported))

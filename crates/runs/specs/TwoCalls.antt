@@ -13,13 +13,13 @@ use Rattle.document.specs.Declarations.{Declared}
 use Rattle.document.specs.Property.{Property}
 use Rattle.document.specs.Session.{Session, Happened, sound, stepFrom}
 use Rattle.document.specs.Log.{rowEvent, stepRow, rowAt, Ran, ranTo, runFrom, judged, run}
+use Rattle.basics.specs.Answers.{past-call}
 use Rattle.rows.specs.RunsOfRows.{passes-within}
 use Rattle.runs.specs.Turns.{Turns, spent, ended, stopped, passed, turns}
 use Rattle.runs.specs.Counts.{run-covers, call-refused, call-past, call-runs, Calls, refusedCall, pastLog, takenCall, calls}
 use Rattle.runs.specs.TwoRuns.{goesOn, goesOn-taken, goesOn-refused, two-runs}
 use Rattle.runs.specs.Reports.{ranAfter, run-front}
 use Rattle.runs.specs.ReportRows.{Reports, step-reports}
-use Rattle.runs.specs.Answers.{past-call}
 use Rattle.runs.specs.Judged.{judged-of, of-judged}
 use Rattle.runs.specs.RowEvents.{row-says}
 use Rattle.runs.specs.SoundRuns.{run-sound}

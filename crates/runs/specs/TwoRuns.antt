@@ -1,12 +1,11 @@
 -- Two runs are one run: a run of m + n rows is a run of m rows and, if no refusal stopped it, a run of n rows that goes on
 -- from where it stopped.
 -- Assumes nothing.
-use Prim.Native.Nat.{ℕ, suc, _+_, _≤_}
+use Prim.Native.Nat.{ℕ, suc, _+_}
 use native.Mathlib.Nat.{zero-add}
 use mathlib.Core.Path.{_≡_, sym, ap, _∙_}
 use mathlib.Core.List.{List}
 use native.Mathlib.Omega.{arith}
-use lib.ListN.{length}
 use Rattle.document.specs.Refusals.{Refusal, Answer, taken, refused}
 use Rattle.document.specs.Declarations.{Declared}
 use Rattle.document.specs.Property.{Property}
@@ -33,14 +32,6 @@ module _ (d : Declared) (p : Property) (log : List ℕ) where
   pub goesOn-refused : (n : ℕ) (r : Ran) (q : Refusal) (o : ℕ) → r .stop ≡ refused q o → goesOn n r ≡ r
   unfolding goesOn
   goesOn-refused n r q o e = ap (goesOnAfter n r) e
-
-  -- at the log's end there is nothing to go on with either
-  pub goesOn-ended : (n : ℕ) (r : Ran) → r .stop ≡ taken tt → length log ≤ r .next → goesOn n r ≡ r
-  unfolding ranTo
-  goesOn-ended n r e h =
-      goesOn-taken n r tt e
-      ∙ run-ended d p log n (r .taken) (r .next) (r .happened .session) (r .happened .reports) (r .happened .reported) h
-      ∙ (λ i. record { taken = r .taken; next = r .next; happened = r .happened; stop = sym e i })
 
   turns-go-on : (n : ℕ) {m rows at : ℕ} {s : Session} {reports : List ℕ} {count : ℕ} {r : Ran}
       → Turns d p log m rows at s reports count r → runFrom (m + n) d p log rows at s reports count ≡ goesOn n r

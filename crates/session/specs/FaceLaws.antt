@@ -36,9 +36,6 @@ module _ (p : Property) (f : Bool) (qf : f ≡ inRange p) (zf : not f ≡ false)
 -- One event ------------------------------------------------------------------------------------------------------------
 
 module _ (p : Property) (n m : ℕ) (seen kept reports : List ℕ) (e : ℕ) (values : List ℕ) (f : Bool) (qf : f ≡ inRange p) where
-  abbrev s₀ : Session
-  s₀ = sessionOf n m seen kept
-
   pub event-property : not f ≡ true → (r : Answered) → r ≡ record { refusal = 11; seen = n; kept = m; reported = 0 }
       → Leaves (event p (sessionOf n m seen kept) reports e values) (sessionOf n m seen kept) reports r seen kept reports
   unfolding event answered leaves

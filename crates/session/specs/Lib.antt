@@ -1,4 +1,3 @@
 pub mod Calls
 pub mod FaceLaws
 pub mod LookupLaws
-pub mod GoesOnLaws

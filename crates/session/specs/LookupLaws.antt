@@ -20,16 +20,18 @@ use Rattle.document.specs.OneEvent.{Kept, joinSeen}
 use Rattle.document.specs.Property.{Property, inRange, verdict, hopeful}
 use Rattle.document.specs.Tables.{numbersAt, seenRoom, keptRoom, seenRows, keptRows}
 use Rattle.document.specs.Session.{seenOf, keptOf, sessionWith, lentTables, firstKept, sound, start, startLeaves, held, findKept, lookup}
+use Rattle.basics.specs.Tests.{decided}
 use Rattle.words.specs.Range.{in-range-range}
-use Rattle.slices.specs.TestsLaws.{so, not-so, true-of, either, equal-of, of-equal}
+use Rattle.slices.specs.TestsLaws.{so, not-so, true-of, equal-of, of-equal}
 use Rattle.slices.specs.ListsLaws.{map-in}
 use Rattle.slices.specs.OrderLaws.{precedes-irrefl, Ascends, combinations}
+use Rattle.slices.specs.TablesLaws.{keptAt}
 use Rattle.combos.specs.Rows.{SeenInOrder, Searchable, Parted}
 use Rattle.combos.specs.RowsLaws.{ascends-at, tabulate-in}
 use Rattle.combos.specs.Writes.{ZeroIn}
 use Rattle.property.specs.Meaning.{Hopes}
 use Rattle.judge.specs.Sound.{soundBy, sessionOf}
-use Rattle.tables.specs.Tables.{rowAt, keptFrom, seenFrom}
+use Rattle.tables.specs.Tables.{keptFrom, seenFrom}
 use Rattle.tables.specs.TablesLaws.{row-is, kept-tabulated, kept-rows, row-in, combinations-tabulated}
 use Rattle.tables.specs.WholeLaws.{kept-table, seen-table}
 use Rattle.moves.specs.Steps.{one}
@@ -48,7 +50,7 @@ length-first : (p : Property) (hopes x : ℕ) (g : Bool) → Hopes p hopes → g
 unfolding firstKept
 length-first p hopes x g h q r =
     let e : hopeful p 0 ≡ g = sym (h .says 0) ∙ sym q in
-    rw (e, r) (elim (either g) [ inl z ↦ rw z | inr z ↦ rw z ])
+    rw (e, r) (elim (decided g) [ inl z ↦ rw z | inr z ↦ rw z ])
 
 module _ (p : Property) (seen kept : List ℕ) (f : Bool) (qf : f ≡ inRange p) where
   pub start-property : not f ≡ true → (r : Answered) → r ≡ record { refusal = 11; seen = 0; kept = 0; reported = 0 } → StartLeaves (start p seen kept) seen kept r seen kept
@@ -65,7 +67,7 @@ module _ (p : Property) (seen kept : List ℕ) (f : Bool) (qf : f ≡ inRange p)
     unfolding firstKept keptFrom
     first-rows l t z =
         let e : hopeful p 0 ≡ g = sym (h .says 0) ∙ sym qg in
-        elim (either g) [
+        elim (decided g) [
           | inl y ↦
               let o : x ≡ 1 = qx ∙ rw y refl in
               rw (e, y, o) (ap (λ (k : Kept). k ∷ [])
@@ -91,13 +93,13 @@ findable-searchable m kept u = record {
   inside = let i = u .inside in omega arith;
   wide = omega arith;
   order = λ i j h g. true-of _ (ascends-at m (λ k. numbersAt width kept (0 + k * keptStride))
-      (subst (λ (l : List (List ℕ)). Ascends l) (ap combinations (kept-tabulated m kept 0) ∙ combinations-tabulated m (λ k. rowAt kept (0 + k * keptStride))) (u .order)) i j h g);
+      (subst (λ (l : List (List ℕ)). Ascends l) (ap combinations (kept-tabulated m kept 0) ∙ combinations-tabulated m (λ k. keptAt width kept (0 + k * keptStride))) (u .order)) i j h g);
 }
 
 found-none : (verdicts c : List ℕ) (l : List Kept) → ((k : Kept) → In k l → k .combination ≡ c → ⊥) → foundBy verdicts c l ≡ record { refusal = 0; held = false; state = 0; verdict = 0 }
 unfolding foundBy
 found-none verdicts c [] f = refl
-found-none verdicts c (k ∷ l) f = elim (either (equal (k .combination) c)) [
+found-none verdicts c (k ∷ l) f = elim (decided (equal (k .combination) c)) [
   | inl e ↦ absurd (f k (inl refl) (equal-of (k .combination) c (so e)))
   | inr e ↦ rw (foundBy, e) (found-none verdicts c l (λ x i. f x (inr i)))
 ]
@@ -113,7 +115,7 @@ unfolding foundBy
 found-some verdicts c [] k a i q = absurd i
 found-some verdicts c (y ∷ l) k a (inl e) q =
     ap (λ (x : Kept). foundBy verdicts c (x ∷ l)) (sym e) ∙ found-first verdicts c l k (true-of (equal (k .combination) c) (of-equal (k .combination) c q))
-found-some verdicts c (y ∷ l) k a (inr i) q = elim (either (equal (y .combination) c)) [
+found-some verdicts c (y ∷ l) k a (inr i) q = elim (decided (equal (y .combination) c)) [
   | inl e ↦ absurd (precedes-irrefl c (subst (λ (z : List ℕ). T (precedes z c)) (equal-of (y .combination) c (so e))
       (subst (λ (z : List ℕ). T (precedes (y .combination) z)) q (a .0 (k .combination) (map-in (λ (r : Kept). r .combination) l k i)))))
   | inr e ↦ rw (foundBy, e) (found-some verdicts c l k (a .1) i q)
@@ -125,7 +127,7 @@ module _ (verdicts : List ℕ) (m at : ℕ) (kept c : List ℕ) (u : Findable m 
 
   pub find-none : m ≤ at → (r : Looked) → r ≡ record { refusal = 0; held = false; state = 0; verdict = 0 } → r ≡ foundBy verdicts c (keptRows m kept)
   find-none h r q = q ∙ sym (ap (foundBy verdicts c) (sym (kept-rows m kept)) ∙ found-none verdicts c (keptFrom m kept 0) (λ k i e.
-      let t = tabulate-in m (λ j. rowAt kept (0 + j * keptStride)) k (rw (kept-tabulated m kept 0) at i) in
+      let t = tabulate-in m (λ j. keptAt width kept (0 + j * keptStride)) k (rw (kept-tabulated m kept 0) at i) in
       let b = t .below in
       low-differs (t .at) (omega arith) (ap (λ (x : Kept). x .combination) (sym (t .is)) ∙ e)))
 
@@ -135,7 +137,7 @@ module _ (verdicts : List ℕ) (m at : ℕ) (kept c : List ℕ) (u : Findable m 
 
     pub find-differs : not f ≡ true → (r : Looked) → r ≡ record { refusal = 0; held = false; state = 0; verdict = 0 } → r ≡ foundBy verdicts c (keptRows m kept)
     find-differs z r q = q ∙ sym (ap (foundBy verdicts c) (sym (kept-rows m kept)) ∙ found-none verdicts c (keptFrom m kept 0) (λ k i e.
-        let t = tabulate-in m (λ j. rowAt kept (0 + j * keptStride)) k (rw (kept-tabulated m kept 0) at i) in
+        let t = tabulate-in m (λ j. keptAt width kept (0 + j * keptStride)) k (rw (kept-tabulated m kept 0) at i) in
         let b = t .below in
         let w : numbersAt width kept (0 + t .at * keptStride) ≡ c = ap (λ (x : Kept). x .combination) (sym (t .is)) ∙ e in
         elim (decLt (t .at) at) [
@@ -150,21 +152,21 @@ module _ (verdicts : List ℕ) (m at : ℕ) (kept c : List ℕ) (u : Findable m 
     pub find-here : not f ≡ false → (s w v : ℕ) → s ≡ getD kept (at * keptStride + width) 0 → w ≡ s → v ≡ getD verdicts w 0
         → _≡_ {A = Looked} (record { refusal = 0; held = true; state = s; verdict = v }) (foundBy verdicts c (keptRows m kept))
     find-here z s w v qs qw qv =
-        let k : Kept = rowAt kept (at * keptStride) in
-        let i : In k (keptFrom m kept 0) = subst (λ (j : ℕ). In (rowAt kept j) (keptFrom m kept 0)) z₀ (row-in m kept 0 at l) in
+        let k : Kept = keptAt width kept (at * keptStride) in
+        let i : In k (keptFrom m kept 0) = subst (λ (j : ℕ). In (keptAt width kept j) (keptFrom m kept 0)) z₀ (row-in m kept 0 at l) in
         let e : k .combination ≡ c = sym qr ∙ equal-of row c (so (sym qf ∙ not-false f z)) in
         (λ j. record { refusal = 0; held = true; state = qs j; verdict = (qv ∙ ap (λ (x : ℕ). getD verdicts x 0) (qw ∙ qs)) j })
         ∙ sym (ap (foundBy verdicts c) (sym (kept-rows m kept)) ∙ found-some verdicts c (keptFrom m kept 0) k (u .order) i e)
 
   pub find-state : at < m → getD kept (at * keptStride + width) 0 < mostStates
-  find-state l = u .within (rowAt kept (at * keptStride)) (subst (λ (j : ℕ). In (rowAt kept j) (keptFrom m kept 0)) (zero-add (at * keptStride)) (row-in m kept 0 at l))
+  find-state l = u .within (keptAt width kept (at * keptStride)) (subst (λ (j : ℕ). In (keptAt width kept j) (keptFrom m kept 0)) (zero-add (at * keptStride)) (row-in m kept 0 at l))
 
 -- Lookup ---------------------------------------------------------------------------------------------------------------
 
 found-same : (p : Property) (c : List ℕ) (l : List Kept) → foundBy (p .verdicts) c l ≡ lookedUp (taken (findKept p c l))
 unfolding foundBy findKept lookedUp verdict
 found-same p c [] = refl
-found-same p c (k ∷ l) = elim (either (equal (k .combination) c)) [
+found-same p c (k ∷ l) = elim (decided (equal (k .combination) c)) [
   | inl e ↦ rw (foundBy, findKept, e)
   | inr e ↦ rw (foundBy, findKept, e) (found-same p c l)
 ]

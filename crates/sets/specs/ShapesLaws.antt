@@ -16,7 +16,7 @@ use borrow.Author.Tests.{eqb-true, eqb-false}
 use Rattle.document.specs.Lists.{tabulate}
 use Rattle.document.specs.Patterns.{Pattern, name, alternative, sequence, star, plus}
 use Rattle.document.specs.Positions.{holds, nullable, firsts, lasts, follows, named}
-use Rattle.words.specs.Range.{tabulate-at, tabulate-same}
+use Rattle.basics.specs.Lists.{tabulate-at, tabulate-same}
 use Rattle.sets.specs.Shapes.{shapeOf, mergeOf, linkOf, eitherShape, thenShape, starShape, plusShape}
 
 -- a list of n numbers that follow a rule is the rule's list

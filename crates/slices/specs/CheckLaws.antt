@@ -14,7 +14,8 @@ use Rattle.document.specs.OneEvent.{Kept, joinSeen}
 use Rattle.document.specs.Property.{Property, hopeful}
 use Rattle.document.specs.Tables.{seenRoom, keptRoom}
 use Rattle.document.specs.Session.{Session, seenOf, keptOf, sessionWith, ascending, zeroBetween, keptCombinations, rightlyKept, sound}
-use Rattle.slices.specs.TestsLaws.{so, not-so, true-of, not-of, of-not, and-of, of-and, both, every-of, of-every, equal-of, of-equal}
+use Rattle.basics.specs.Tests.{both}
+use Rattle.slices.specs.TestsLaws.{so, not-so, true-of, not-of, of-not, and-of, of-and, every-of, of-every, equal-of, of-equal}
 use Rattle.slices.specs.ListsLaws.{in-map, map-in}
 use Rattle.slices.specs.OrderLaws.{Ascends, ascending-of, of-ascending, combinations}
 use Rattle.slices.specs.SessionLaws.{Fits, seenOf-with, keptOf-with, seenRoom-with, keptRoom-with, seen-zero, kept-zero}

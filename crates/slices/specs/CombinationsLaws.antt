@@ -10,7 +10,8 @@ use native.Mathlib.Omega.{arith}
 use lib.Dec.{T, eqb, eqb→eq}
 use lib.ListN.{length, length-replicate}
 use Rattle.document.specs.Combinations.{emptyOf, includes, compatible, join, zeroPast}
-use Rattle.slices.specs.TestsLaws.{so, not-so, either, and-of, of-and, or-of, of-or, of-eqb}
+use Rattle.basics.specs.Tests.{decided}
+use Rattle.slices.specs.TestsLaws.{so, not-so, and-of, of-and, or-of, of-or, of-eqb}
 
 -- Number by number -----------------------------------------------------------------------------------------------------
 
@@ -25,7 +26,7 @@ abbrev joined : ℕ → ℕ → ℕ
 joined x y = cond (eqb x 0) y x
 
 joined-of : (x y : ℕ) → ((x ≡ 0) × (joined x y ≡ y)) ⊎ ((x ≡ 0 → ⊥) × (joined x y ≡ x))
-joined-of x y = elim (either (eqb x 0)) [ inl e ↦ inl (eqb→eq x 0 (so e), rw e) | inr e ↦ inr ((λ q. not-so e (of-eqb x 0 q)), rw e) ]
+joined-of x y = elim (decided (eqb x 0)) [ inl e ↦ inl (eqb→eq x 0 (so e), rw e) | inr e ↦ inr ((λ q. not-so e (of-eqb x 0 q)), rw e) ]
 
 -- what holds of both holds of the joined
 joined-has : (P : ℕ → Type 0) (x y : ℕ) → P x → P y → P (joined x y)
@@ -195,14 +196,6 @@ compatible-join (x ∷ a) (y ∷ b) (z ∷ c) s t =
 
 pub length-empty : (w : ℕ) → length (emptyOf w) ≡ w
 length-empty w = length-replicate w 0
-
--- what a combination includes is as wide
-pub length-included : (c b : List ℕ) → T (includes c b) → length b ≡ length c
-unfolding includes
-length-included [] [] t = refl
-length-included [] (y ∷ b) t = absurd t
-length-included (x ∷ c) [] t = absurd t
-length-included (x ∷ c) (y ∷ b) t = ap suc (length-included c b (includes-of x y c b t .1))
 
 pub length-join : (w : ℕ) (a b : List ℕ) → length a ≡ w → length b ≡ w → length (join a b) ≡ w
 unfolding join

@@ -17,11 +17,13 @@ use Rattle.document.specs.Property.{Property, inRange, setOf, stateFrom, stateA
 use Rattle.document.specs.Tables.{seenRoom, keptRoom}
 use Rattle.document.specs.Session.{Session, Happened, ascending, sessionWith, sound, firstKept, lentTables, start, keeps, outcome, written, stepFrom, event, leaves}
 use Rattle.document.specs.Demands.{Lists, itself, SeenIn, KeptIn, Proper, Holds, extended, Reached, fresh, accepted, refusedEvent, Demand3}
-use Rattle.slices.specs.TestsLaws.{so, not-so, either}
+use Rattle.basics.specs.Tests.{decided}
+use Rattle.basics.specs.Answers.{past-test, taken-one}
+use Rattle.slices.specs.TestsLaws.{so, not-so}
 use Rattle.slices.specs.HistoriesLaws.{is-binding, joinOf-made, length-made, made-joinOf}
 use Rattle.slices.specs.OneEventLaws.{Follows}
 use Rattle.slices.specs.SessionLaws.{Fits, seenRoom-with, keptRoom-with, seenLength-with, keptLength-with, with-again}
-use Rattle.slices.specs.StepLaws.{passed, taken-same, stepped}
+use Rattle.slices.specs.StepLaws.{stepped}
 use Rattle.slices.specs.HoldsLaws.{ProperHistory, history-width, kept-follows}
 use Rattle.slices.specs.EventLaws.{history-more, comes-to, event-steps}
 use Rattle.slices.specs.LookupLaws.{looks-up}
@@ -90,7 +92,7 @@ first-follows p k = (
 first-kept : (p : Property) → inRange p ≡ true → Lists (λ k. k .combination) (KeptIn p []) (firstKept p)
 unfolding firstKept ascending keeps
 first-kept p r =
-    elim (either (hopeful p 0)) [
+    elim (decided (hopeful p 0)) [
       | inl e ↦ rw e (record {
         order = refl;
         exactly = λ k. (
@@ -120,17 +122,17 @@ unfolding start
 start-range p seen kept s e =
     let full = ltb (keptRoom kept) (length (firstKept p)) in
     let rest = refuseIf full noRoomForKept (taken (sessionWith (lentTables seen kept) [] (firstKept p))) in
-    not-false (inRange p) (passed (not (inRange p)) badProperty rest s e .0)
+    not-false (inRange p) (past-test (not (inRange p)) badProperty rest s e .0)
 
 start-holds : (p : Property) (seen kept : List ℕ) (s : Session) → start p seen kept ≡ taken s → HoldsIn p [] s (length seen) (length kept)
 unfolding start lentTables
 start-holds p seen kept s e =
     let lent = lentTables seen kept in
     let full = ltb (keptRoom kept) (length (firstKept p)) in
-    let a = passed (not (inRange p)) badProperty (refuseIf full noRoomForKept (taken (sessionWith lent [] (firstKept p)))) s e in
-    let b = passed full noRoomForKept (taken (sessionWith lent [] (firstKept p))) s (a .1) in
+    let a = past-test (not (inRange p)) badProperty (refuseIf full noRoomForKept (taken (sessionWith lent [] (firstKept p)))) s e in
+    let b = past-test full noRoomForKept (taken (sessionWith lent [] (firstKept p))) s (a .1) in
     let r : inRange p ≡ true = not-false (inRange p) (a .0) in
-    rw (← taken-same (sessionWith lent [] (firstKept p)) s (b .1))
+    rw (← taken-one (b .1))
     (holds-with p r [] lent [] (firstKept p) (none p) first-seen (first-kept p r) zero-le
     (ltb-false (keptRoom kept) (length (firstKept p)) (b .0)))
 
@@ -144,10 +146,10 @@ taken-proper p s reports e b h o q =
     let bad = not (bindsExactly (setOf p e) b) in
     let from-values = refuseIf bad wrongValues (stepFrom 0 p s reports e b) in
     let from-event = refuseIf (leb (p .events) e) noSuchEvent from-values in
-    let h₁ = passed (not (inRange p)) badProperty (refuseIf (not (sound p s)) badSession from-event) h q in
-    let h₂ = passed (not (sound p s)) badSession from-event h (h₁ .1) in
-    let h₃ = passed (leb (p .events) e) noSuchEvent from-values h (h₂ .1) in
-    let h₄ = passed bad wrongValues (stepFrom 0 p s reports e b) h (h₃ .1) in
+    let h₁ = past-test (not (inRange p)) badProperty (refuseIf (not (sound p s)) badSession from-event) h q in
+    let h₂ = past-test (not (sound p s)) badSession from-event h (h₁ .1) in
+    let h₃ = past-test (leb (p .events) e) noSuchEvent from-values h (h₂ .1) in
+    let h₄ = past-test bad wrongValues (stepFrom 0 p s reports e b) h (h₃ .1) in
     record { declared = leb-false (p .events) e (h₃ .0); width = o; values = not-false (bindsExactly (setOf p e) b) (h₄ .0) }
 
 goes-on : (p : Property) (H : List Event) (s : Session) → inRange p ≡ true → Holds p H s

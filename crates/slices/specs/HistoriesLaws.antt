@@ -13,7 +13,8 @@ use Rattle.document.specs.Lists.{In, keepIf}
 use Rattle.document.specs.Combinations.{includes, compatible, join}
 use Rattle.document.specs.Histories.{Event, slice, AllCompatible, PairwiseCompatible, joinAll, IsBinding, Made}
 use Rattle.document.specs.OneEvent.{joinSeen}
-use Rattle.slices.specs.TestsLaws.{either, same-test}
+use Rattle.basics.specs.Tests.{decided}
+use Rattle.slices.specs.TestsLaws.{same-test}
 use Rattle.slices.specs.ListsLaws.{in-map, map-in, map-append, in-keepIf}
 use Rattle.slices.specs.CombinationsLaws.{includes-trans, includes-antisym, includes-empty, join-includes-left, join-includes-right, includes-join, included-compatible, compatible-empty, compatible-join, length-empty, length-join}
 use Rattle.slices.specs.JoinSeenLaws.{OfWidth, length-joinSeen, includes-joinSeen, joinSeen-includes, joinSeen-more-in, joinSeen-more-out}
@@ -34,7 +35,7 @@ pub slice-append : (c : List ℕ) (H G : List Event) → slice c (H ++ G) ≡ sl
 unfolding slice
 slice-append c [] G = refl
 slice-append c (h ∷ H) G =
-    elim (either (includes c (h .binding))) [ inl e ↦ rw (e, slice-append c H G) | inr e ↦ rw (e, slice-append c H G) ]
+    elim (decided (includes c (h .binding))) [ inl e ↦ rw (e, slice-append c H G) | inr e ↦ rw (e, slice-append c H G) ]
 
 slice-same : (c d : List ℕ) (H : List Event) → ((h : Event) → In h H → includes c (h .binding) ≡ includes d (h .binding))
     → slice c H ≡ slice d H
@@ -47,7 +48,7 @@ pub in-slice : (c : List ℕ) (H : List Event) (e : ℕ) → In e (slice c H) �
 unfolding slice
 in-slice c [] e i = absurd i
 in-slice c (h ∷ H) e i =
-    elim (either (includes c (h .binding))) [
+    elim (decided (includes c (h .binding))) [
       | inl q ↦ elim (rw q at i) [
         | inl r ↦ (h, inl refl, r)
         | inr j ↦ let m = in-slice c H e j in (m .0, inr (m .1), m .2)
@@ -74,7 +75,7 @@ module _ (w : ℕ) where
   unfolding joinSeen keepIf
   joinSeen-joinAll c [] = refl
   joinSeen-joinAll c (b ∷ l) =
-      elim (either (includes c b)) [ inl e ↦ rw (e, joinSeen-joinAll c l) | inr e ↦ rw (e, joinSeen-joinAll c l) ]
+      elim (decided (includes c b)) [ inl e ↦ rw (e, joinSeen-joinAll c l) | inr e ↦ rw (e, joinSeen-joinAll c l) ]
 
   included-all : (c a : List ℕ) (l : List (List ℕ)) → T (includes c a) → ((b : List ℕ) → In b l → T (includes c b))
       → AllCompatible a l

@@ -14,8 +14,8 @@ use lib.ListN.{length, getD, replicate, List·getD-eq-default}
 use Rattle.document.specs.Lists.{In, tabulate}
 use Rattle.document.specs.Patterns.{Among}
 use Rattle.document.specs.Property.{Property, nextState, inRange, stateFrom, isAsked, Leads, leadsIn, leadsAfter, leads, everyEvent, hopeful}
+use Rattle.basics.specs.Lists.{length-tabulate, tabulate-at}
 use Rattle.slices.specs.TestsLaws.{and-of, of-and, or-of, of-or, someBelow-of, of-someBelow}
-use Rattle.slices.specs.ListsLaws.{length-tabulate, getD-tabulate}
 use Rattle.slices.specs.PropertyLaws.{Ranges, ranges}
 
 -- Flags that only go up ------------------------------------------------------------------------------------------------
@@ -146,7 +146,7 @@ module _ (p : Property) (marked allowed : ℕ → Bool) where
   getD-round flags s t = go (decLt s (p .states))
     where
       go : Dec (s < p .states) → T (leadsIn p marked allowed flags s)
-      go (yes h) = rw (getD-tabulate (p .states) (leadsIn p marked allowed flags) false s h) at t
+      go (yes h) = rw (tabulate-at (p .states) (leadsIn p marked allowed flags) s false h) at t
       go (no h) =
           let out : length (round flags) ≤ s = simp length-tabulate (omega arith) in
           absurd (rw (List·getD-eq-default (round flags) false out) at t)
@@ -191,7 +191,7 @@ module _ (p : Property) (marked allowed : ℕ → Bool) where
   unfolding leadsAfter
   step-found s h k =
       let t : T (getD (found (suc (p .states))) s false) =
-      rw (getD-tabulate (p .states) (leadsIn p marked allowed (found (p .states))) false s h) (of-leadsIn (found (p .states)) s k) in
+      rw (tabulate-at (p .states) (leadsIn p marked allowed (found (p .states))) s false h) (of-leadsIn (found (p .states)) s k) in
       rw settled at t
 
   leads-found : Ranges p → (s e : ℕ) (rest : List ℕ) → s < p .states → Among (p .events) (e ∷ rest)

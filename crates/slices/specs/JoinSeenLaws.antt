@@ -11,7 +11,8 @@ use lib.ListN.{length}
 use Rattle.document.specs.Lists.{In}
 use Rattle.document.specs.Combinations.{emptyOf, includes, compatible, join}
 use Rattle.document.specs.OneEvent.{joinSeen}
-use Rattle.slices.specs.TestsLaws.{so, not-so, either}
+use Rattle.basics.specs.Tests.{decided}
+use Rattle.slices.specs.TestsLaws.{so, not-so}
 use Rattle.slices.specs.ListsLaws.{in-more, in-more-old, in-more-new}
 use Rattle.slices.specs.CombinationsLaws.{includes-trans, includes-antisym, includes-empty, join-includes-left, join-includes-right, includes-join, included-compatible, length-empty, length-join}
 
@@ -33,7 +34,7 @@ module _ (w : ℕ) where
   length-joinSeen c [] o = length-empty w
   length-joinSeen c (b ∷ l) o =
       let rest = length-joinSeen c l (λ x i. o x (inr i)) in
-      elim (either (includes c b)) [
+      elim (decided (includes c b)) [
         | inl e ↦ rw (joinSeen-in c b l e) (length-join w b (joinSeen w c l) (o b (inl refl)) rest)
         | inr e ↦ rw (joinSeen-out c b l e) rest
       ]
@@ -43,7 +44,7 @@ module _ (w : ℕ) where
   unfolding joinSeen
   includes-joinSeen c [] o = includes-empty w c o
   includes-joinSeen c (b ∷ l) o =
-      elim (either (includes c b)) [
+      elim (decided (includes c b)) [
         | inl e ↦ rw (joinSeen-in c b l e) (includes-join c b (joinSeen w c l) (so e) (includes-joinSeen c l o))
         | inr e ↦ rw (joinSeen-out c b l e) (includes-joinSeen c l o)
       ]
@@ -53,7 +54,7 @@ module _ (w : ℕ) where
       → T (includes (joinSeen w c l) x)
   joinSeen-includes c [] o x i t = absurd i
   joinSeen-includes c (b ∷ l) o x i t =
-      elim (either (includes c b)) [
+      elim (decided (includes c b)) [
         | inl e ↦ rw (joinSeen-in c b l e) (
             let both : T (compatible b (joinSeen w c l)) = included-compatible c b (joinSeen w c l) (so e) (includes-joinSeen c l o) in
             elim i [
@@ -72,7 +73,7 @@ module _ (w : ℕ) where
   joinSeen-least c d [] o f = includes-empty w d o
   joinSeen-least c d (b ∷ l) o f =
       let rest : T (includes d (joinSeen w c l)) = joinSeen-least c d l o (λ x i. f x (inr i)) in
-      elim (either (includes c b)) [
+      elim (decided (includes c b)) [
         | inl e ↦ rw (joinSeen-in c b l e) (includes-join d b (joinSeen w c l) (f b (inl refl) (so e)) rest)
         | inr e ↦ rw (joinSeen-out c b l e) rest
       ]

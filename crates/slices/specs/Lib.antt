@@ -4,7 +4,6 @@ pub mod CombinationsLaws
 pub mod OrderLaws
 pub mod AscendingLaws
 pub mod JoinSeenLaws
-pub mod ExactlyLaws
 pub mod SeeLaws
 pub mod HistoriesLaws
 pub mod SeenLaws
@@ -15,15 +14,12 @@ pub mod ProperLaws
 pub mod HopefulLaws
 pub mod TablesLaws
 pub mod KeptJoinsLaws
-pub mod RowMovesLaws
-pub mod InPlace
 pub mod TablesBackLaws
 pub mod SessionLaws
 pub mod SessionBackLaws
 pub mod StepLaws
 pub mod CheckLaws
 pub mod StepSoundLaws
-pub mod InPlaceLaws
 pub mod HoldsLaws
 pub mod SoundLaws
 pub mod LookupLaws

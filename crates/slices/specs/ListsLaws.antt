@@ -1,7 +1,7 @@
 -- Members of lists: of an append, of the members that pass a test, of a map, of the numbers tabulated; and lists in which
 -- nothing stands twice.
 -- Assumes nothing.
-use Prim.Native.Nat.{ℕ, zero, suc, _<_, _≤_}
+use Prim.Native.Nat.{ℕ, zero, suc, _≤_}
 use mathlib.Core.Path.{_≡_, refl, sym, ap, subst, _∙_}
 use mathlib.Core.Logic.{_⊎_, inl, inr, _↔_}
 use mathlib.Core.Bool.{Bool}
@@ -9,19 +9,11 @@ use mathlib.Core.List.{List, [], _∷_, _++_}
 use mathlib.Core.List as list
 use native.Mathlib.Omega.{arith}
 use lib.Dec.{T}
-use lib.ListN.{length, getD}
+use lib.ListN.{length}
 use Rattle.document.specs.Lists.{In, keepIf, tabulate}
-use Rattle.slices.specs.TestsLaws.{so, not-so, either}
-
-pub in-append : {A : Type 0} (a : A) (l m : List A) → In a (l ++ m) ↔ (In a l ⊎ In a m)
-in-append a [] m = (inr, λ s. elim s [ inl h ↦ absurd h | inr h ↦ h ])
-in-append a (x ∷ l) m = (
-  λ s. elim s [ inl h ↦ inl (inl h) | inr h ↦ elim (in-append a l m .0 h) [ inl k ↦ inl (inr k) | inr k ↦ inr k ] ],
-  λ s. elim s [
-    | inl h ↦ elim h [ inl k ↦ inl k | inr k ↦ inr (in-append a l m .1 (inl k)) ]
-    | inr h ↦ inr (in-append a l m .1 (inr h))
-  ],
-)
+use Rattle.basics.specs.Tests.{decided}
+use Rattle.basics.specs.Lists.{in-append, Distinct}
+use Rattle.slices.specs.TestsLaws.{so, not-so}
 
 -- a list with one member more at its end
 pub in-more : {A : Type 0} (l : List A) (x a : A) → In a (l ++ (x ∷ [])) → In a l ⊎ (a ≡ x)
@@ -38,7 +30,7 @@ pub in-keepIf : {A : Type 0} (p : A → Bool) (l : List A) (a : A) → In a (kee
 unfolding keepIf
 in-keepIf p [] a = (λ i. absurd i, λ i. absurd (i .0))
 in-keepIf p (x ∷ l) a =
-    elim (either (p x)) [
+    elim (decided (p x)) [
       | inl e ↦ rw e (
         (λ i. elim i [ inl q ↦ (inl q, rw q (so e)) | inr j ↦ let r = in-keepIf p l a .0 j in (inr (r .0), r .1) ]),
         (λ r. elim (r .0) [ inl q ↦ inl q | inr j ↦ inr (in-keepIf p l a .1 (j, r .1)) ]),
@@ -54,12 +46,12 @@ unfolding keepIf
 length-keepIf p [] = omega arith
 length-keepIf p (x ∷ l) =
     let h = length-keepIf p l in
-    elim (either (p x)) [ inl e ↦ rw e (omega arith) | inr e ↦ rw e (omega arith) ]
+    elim (decided (p x)) [ inl e ↦ rw e (omega arith) | inr e ↦ rw e (omega arith) ]
 
 pub keepIf-append : {A : Type 0} (p : A → Bool) (l m : List A) → keepIf p (l ++ m) ≡ keepIf p l ++ keepIf p m
 unfolding keepIf
 keepIf-append p [] m = refl
-keepIf-append p (x ∷ l) m = elim (either (p x)) [ inl e ↦ rw (e, keepIf-append p l m) | inr e ↦ rw (e, keepIf-append p l m) ]
+keepIf-append p (x ∷ l) m = elim (decided (p x)) [ inl e ↦ rw (e, keepIf-append p l m) | inr e ↦ rw (e, keepIf-append p l m) ]
 
 -- b is what f makes of some member
 pub record Image {A B : Type 0} (f : A → B) (l : List A) (b : B) : Type 0 where
@@ -87,24 +79,7 @@ pub map-append : {A B : Type 0} (f : A → B) (l m : List A) → list.map f (l +
 map-append f [] m = refl
 map-append f (x ∷ l) m = rw (map-append f l m)
 
--- numbers tabulated
-pub length-tabulate : {A : Type 0} (n : ℕ) (f : ℕ → A) → length (tabulate n f) ≡ n
-unfolding tabulate
-length-tabulate zero f = refl
-length-tabulate (suc n) f = ap suc (length-tabulate n (λ k. f (suc k)))
-
-pub getD-tabulate : {A : Type 0} (n : ℕ) (f : ℕ → A) (d : A) (k : ℕ) → k < n → getD (tabulate n f) k d ≡ f k
-unfolding tabulate
-getD-tabulate zero f d k h = absurd (omega arith)
-getD-tabulate (suc n) f d zero h = refl
-getD-tabulate (suc n) f d (suc k) h = getD-tabulate n (λ i. f (suc i)) d k (omega arith)
-
-pub tabulate-same : {A : Type 0} (n : ℕ) (f g : ℕ → A) → ((k : ℕ) → f k ≡ g k) → tabulate n f ≡ tabulate n g
-unfolding tabulate
-tabulate-same zero f g h = refl
-tabulate-same (suc n) f g h = rw (h 0, tabulate-same n (λ k. f (suc k)) (λ k. g (suc k)) (λ k. h (suc k)))
-
--- what holds of all the values holds of the members
+-- numbers tabulated: what holds of all the values holds of the members
 pub tabulate-all : {A : Type 0} (n : ℕ) (f : ℕ → A) (P : A → Type 0) → ((k : ℕ) → P (f k)) → (x : A) → In x (tabulate n f) → P x
 unfolding tabulate
 tabulate-all zero f P h x i = absurd i
@@ -115,11 +90,6 @@ pub map-tabulate : {A B : Type 0} (g : A → B) (n : ℕ) (f : ℕ → A) → li
 unfolding tabulate
 map-tabulate g zero f = refl
 map-tabulate g (suc n) f = rw (map-tabulate g n (λ k. f (suc k)))
-
--- nothing stands twice
-abbrev pub Distinct : {A : Type 0} → List A → Type 0
-Distinct [] = Unit {0}
-Distinct (x ∷ l) = (In x l → ⊥) × Distinct l
 
 pub append-distinct : {A : Type 0} (l m : List A) → Distinct l → Distinct m → ((x : A) → In x l → In x m → ⊥) → Distinct (l ++ m)
 append-distinct [] m p q f = q
@@ -134,7 +104,7 @@ pub keepIf-distinct : {A B : Type 0} (f : A → B) (p : A → Bool) (l : List A)
 unfolding keepIf
 keepIf-distinct f p [] d = tt
 keepIf-distinct f p (x ∷ l) d =
-    elim (either (p x)) [
+    elim (decided (p x)) [
       | inl e ↦ rw e (
         (λ i.
             let r = in-map f (keepIf p l) (f x) .0 i in

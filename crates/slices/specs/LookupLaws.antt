@@ -14,9 +14,10 @@ use Rattle.document.specs.Combinations.{zeroPast}
 use Rattle.document.specs.Histories.{Event, slice, Made}
 use Rattle.document.specs.OneEvent.{Kept}
 use Rattle.document.specs.Property.{Property, inRange, stateAfter, verdict, hopeful}
-use Rattle.document.specs.Session.{Session, seenOf, keptOf, keeps, held, hopeless, findKept, lookup}
+use Rattle.document.specs.Session.{Session, keeps, held, hopeless, findKept, lookup}
 use Rattle.document.specs.Demands.{Holds, LooksUp, isHeld, isHopeless}
-use Rattle.slices.specs.TestsLaws.{so, not-so, either, equal-of, of-equal}
+use Rattle.basics.specs.Tests.{decided}
+use Rattle.slices.specs.TestsLaws.{so, not-so, equal-of, of-equal}
 use Rattle.slices.specs.JoinSeenLaws.{joinSeen-again}
 use Rattle.slices.specs.HistoriesLaws.{bindings, slice-joinOf, joinOf, joinOf-made}
 use Rattle.slices.specs.SeenLaws.{sees-joinOf}
@@ -41,7 +42,7 @@ module _ (p : Property) (c : List ℕ) where
       → (k : Kept) → In k rows → k .combination ≡ c → findKept p c rows ≡ held s (verdict p s)
   findKept-held s [] f k i q = absurd i
   findKept-held s (x ∷ rows) f k i q =
-      elim (either (equal (x .combination) c)) [
+      elim (decided (equal (x .combination) c)) [
         | inl e ↦ findKept-here x rows e ∙ ap (λ (t : ℕ). held t (verdict p t)) (f x (inl refl) (equal-of (x .combination) c (so e)))
         | inr e ↦ elim i [
           | inl z ↦ absurd (not-so e (of-equal (x .combination) c (rw (← z) q)))
@@ -53,7 +54,7 @@ module _ (p : Property) (c : List ℕ) where
   unfolding findKept
   findKept-hopeless [] f = refl
   findKept-hopeless (x ∷ rows) f =
-      elim (either (equal (x .combination) c)) [
+      elim (decided (equal (x .combination) c)) [
         | inl e ↦ absurd (f x (inl refl) (equal-of (x .combination) c (so e)))
         | inr e ↦ findKept-after x rows e ∙ findKept-hopeless rows (λ y l. f y (inr l))
       ]
@@ -80,7 +81,7 @@ looks-up p H s r h c o z =
     ) in
     let states : (x : Kept) → In x (h .kept) → x .combination ≡ k → x .state ≡ now =
     λ x i q. st .follows x .0 i .0 .state ∙ ap (λ (d : List ℕ). stateAfter p (slice d H)) q ∙ same in
-    elim (either (hopeful p now)) [
+    elim (decided (hopeful p now)) [
       | inl e ↦
           let row : Kept = record { combination = k; state = now } in
           let made : Made width H k = joinOf-made width k H (joinSeen-again width c (bindings H) o (st .widths)) in

@@ -13,8 +13,9 @@ use lib.ListN.{length, length-map}
 use Rattle.document.specs.Lists.{In, keepIf, equal}
 use Rattle.document.specs.Combinations.{includes, compatible, join}
 use Rattle.document.specs.OneEvent.{Kept, joinSeen, moves, movedFrom, moved, keptAfter, reportsAfter}
+use Rattle.basics.specs.Lists.{in-append, Distinct}
 use Rattle.slices.specs.TestsLaws.{not-so, not-of, of-not, and-of, of-and, equal-of, of-equal}
-use Rattle.slices.specs.ListsLaws.{in-append, in-keepIf, length-keepIf, in-map, map-append, Distinct, append-distinct, keepIf-distinct, map-distinct}
+use Rattle.slices.specs.ListsLaws.{in-keepIf, length-keepIf, in-map, map-append, append-distinct, keepIf-distinct, map-distinct}
 use Rattle.slices.specs.CombinationsLaws.{join-includes-left}
 use Rattle.slices.specs.OrderLaws.{Ascends, ascends-distinct, combinations, in-inOrder, inOrder-ascends}
 use Rattle.slices.specs.AscendingLaws.{length-inOrder}
@@ -131,7 +132,7 @@ module _ (w : ℕ) (step : ℕ → ℕ → ℕ) (e : ℕ) (b : List ℕ) (seen :
       moved-combinations [] = refl
       moved-combinations (k ∷ l) = rw (moved-combinations l)
 
-      moved-distinct : Distinct (combinations movedRows)
+      pub moved-distinct : Distinct (combinations (moved w step e b seen kept))
       unfolding moved
       moved-distinct =
           rw (moved-combinations (keepIf may kept)) (

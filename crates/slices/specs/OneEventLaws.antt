@@ -13,7 +13,8 @@ use Rattle.document.specs.Lists.{In}
 use Rattle.document.specs.Combinations.{includes, compatible, join}
 use Rattle.document.specs.Histories.{Event, slice, Made}
 use Rattle.document.specs.OneEvent.{Kept, joinSeen, moves, movedFrom, moved, keptAfter, reportsAfter}
-use Rattle.slices.specs.TestsLaws.{so, true-of, either}
+use Rattle.basics.specs.Tests.{decided}
+use Rattle.slices.specs.TestsLaws.{so, true-of}
 use Rattle.slices.specs.ListsLaws.{map-append, in-more}
 use Rattle.slices.specs.CombinationsLaws.{join-includes-left, included-compatible, length-join}
 use Rattle.slices.specs.MovesLaws
@@ -178,7 +179,7 @@ module _ {w : ℕ} {step : ℕ → ℕ → ℕ} {stateOf : List ℕ → ℕ} {ke
           | inl f ↦ (in-moved r (inl (f .1)) .0 (f .0) .0, f .1)
           | inr f ↦ let v = known .exactly r .0 (f .0) in (follows-out r (f .1) .1 (v .0), v .1)
         ]),
-        (λ f. members .1 (elim (either (includes (r .combination) (h .binding))) [
+        (λ f. members .1 (elim (decided (includes (r .combination) (h .binding))) [
           | inl e ↦ inl (in-moved r (inl (f .1)) .1 (f .0, so e), f .1)
           | inr e ↦ inr (known .exactly r .1 (follows-out r e .0 (f .0), f .1), e)
         ])),

@@ -14,8 +14,10 @@ use Rattle.document.specs.Lists.{In}
 use Rattle.document.specs.Combinations.{precedes}
 use Rattle.document.specs.OneEvent.{Kept, insertKept, inOrder, insertSeen}
 use Rattle.document.specs.Session.{ascending}
-use Rattle.slices.specs.TestsLaws.{so, not-so, true-of, either, and-of, of-and, or-of, of-or, of-eqb}
-use Rattle.slices.specs.ListsLaws.{in-map, map-in, Distinct}
+use Rattle.basics.specs.Tests.{decided}
+use Rattle.basics.specs.Lists.{Distinct}
+use Rattle.slices.specs.TestsLaws.{so, not-so, true-of, and-of, of-and, or-of, of-or, of-eqb}
+use Rattle.slices.specs.ListsLaws.{in-map, map-in}
 
 -- The order ------------------------------------------------------------------------------------------------------------
 
@@ -159,7 +161,7 @@ pub in-insertSeen : (b : List ℕ) (l : List (List ℕ)) (y : List ℕ) → In y
 unfolding insertSeen
 in-insertSeen b [] y = ((λ i. i), (λ i. i))
 in-insertSeen b (x ∷ l) y =
-    elim (either (precedes x b)) [
+    elim (decided (precedes x b)) [
       | inl e ↦ rw (insertSeen-after b x l e) (
         (λ i. elim i [ inl q ↦ inr (inl q) | inr j ↦ elim (in-insertSeen b l y .0 j) [ inl q ↦ inl q | inr k ↦ inr (inr k) ] ]),
         (λ i. elim i [
@@ -174,7 +176,7 @@ pub insertSeen-ascends : (b : List ℕ) (l : List (List ℕ)) → Ascends l → 
 unfolding insertSeen
 insertSeen-ascends b [] a f = ((λ y i. absurd i), tt)
 insertSeen-ascends b (x ∷ l) a f =
-    elim (either (precedes x b)) [
+    elim (decided (precedes x b)) [
       | inl e ↦ rw (insertSeen-after b x l e) (
         (λ y i. elim (in-insertSeen b l y .0 i) [ inl q ↦ rw q (so e) | inr k ↦ a .0 y k ]),
         insertSeen-ascends b l (a .1) (λ i. f (inr i)),
@@ -195,7 +197,7 @@ pub insertKept-combinations : (r : Kept) (l : List Kept) → combinations (inser
 unfolding insertKept insertSeen
 insertKept-combinations r [] = refl
 insertKept-combinations r (x ∷ l) =
-    elim (either (precedes (x .combination) (r .combination))) [
+    elim (decided (precedes (x .combination) (r .combination))) [
       | inl e ↦ rw (
         insertKept-after r x l e,
         insertSeen-after (r .combination) (x .combination) (combinations l) e,
@@ -208,7 +210,7 @@ pub in-insertKept : (r : Kept) (l : List Kept) (y : Kept) → In y (insertKept r
 unfolding insertKept
 in-insertKept r [] y = ((λ i. i), (λ i. i))
 in-insertKept r (x ∷ l) y =
-    elim (either (precedes (x .combination) (r .combination))) [
+    elim (decided (precedes (x .combination) (r .combination))) [
       | inl e ↦ rw (insertKept-after r x l e) (
         (λ i. elim i [ inl q ↦ inr (inl q) | inr j ↦ elim (in-insertKept r l y .0 j) [ inl q ↦ inl q | inr k ↦ inr (inr k) ] ]),
         (λ i. elim i [

@@ -10,7 +10,8 @@ use lib.ListN.{length}
 use Rattle.document.specs.Lists.{In, equal, among}
 use Rattle.document.specs.Combinations.{emptyOf, includes, join}
 use Rattle.document.specs.OneEvent.{joinSeen, insertSeen, see}
-use Rattle.slices.specs.TestsLaws.{so, not-so, either, or-of, of-or, equal-of, of-equal, among-of}
+use Rattle.basics.specs.Tests.{decided}
+use Rattle.slices.specs.TestsLaws.{so, not-so, or-of, of-or, equal-of, of-equal, among-of}
 use Rattle.slices.specs.ListsLaws.{in-more, in-more-old, in-more-new}
 use Rattle.slices.specs.OrderLaws.{Ascends, in-insertSeen, insertSeen-ascends}
 use Rattle.slices.specs.JoinSeenLaws.{OfWidth, joinSeen-same, joinSeen-more-in, joinSeen-more-out}
@@ -45,7 +46,7 @@ module _ (w : ℕ) (b : List ℕ) (seen : List (List ℕ)) where
   -- what was seen, and b if it is not empty
   pub in-see : (x : List ℕ) → In x (see w b seen) ↔ (In x seen ⊎ ((x ≡ b) × (x ≡ emptyOf w → ⊥)))
   in-see x =
-      elim (either old) [
+      elim (decided old) [
         | inl e ↦ rw (see-old e) (
           inl,
           (λ s. elim s [
@@ -61,7 +62,7 @@ module _ (w : ℕ) (b : List ℕ) (seen : List (List ℕ)) where
 
   pub see-ascends : Ascends seen → Ascends (see w b seen)
   see-ascends a =
-      elim (either old) [
+      elim (decided old) [
         | inl e ↦ rw (see-old e) a
         | inr e ↦ rw (see-new e) (insertSeen-ascends b seen a (new-absent e))
       ]
@@ -82,7 +83,7 @@ module _ (w : ℕ) (b : List ℕ) (seen : List (List ℕ)) where
         (λ x i. inr (elim (in-see x .0 i) [ inl j ↦ in-more-old seen b x j | inr f ↦ rw (f .0) (in-more-new seen b) ]))
         (λ x i. elim (in-more seen b x i) [
           | inl j ↦ inr (in-see x .1 (inl j))
-          | inr q ↦ elim (either (equal x (emptyOf w))) [
+          | inr q ↦ elim (decided (equal x (emptyOf w))) [
             | inl e ↦ inl (equal-of x (emptyOf w) (so e))
             | inr e ↦ inr (in-see x .1 (inr (q, λ z. not-so e (of-equal x (emptyOf w) z))))
           ]

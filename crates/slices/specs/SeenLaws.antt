@@ -10,7 +10,8 @@ use Rattle.document.specs.Lists.{In, equal}
 use Rattle.document.specs.Combinations.{emptyOf}
 use Rattle.document.specs.Histories.{Event, IsBinding}
 use Rattle.document.specs.OneEvent.{joinSeen, see}
-use Rattle.slices.specs.TestsLaws.{so, not-so, either, equal-of, of-equal}
+use Rattle.basics.specs.Tests.{decided}
+use Rattle.slices.specs.TestsLaws.{so, not-so, equal-of, of-equal}
 use Rattle.slices.specs.ListsLaws.{in-more, in-more-old, in-more-new}
 use Rattle.slices.specs.JoinSeenLaws.{OfWidth, joinSeen-same}
 use Rattle.slices.specs.SeeLaws.{in-see}
@@ -38,7 +39,7 @@ module _ (w : ℕ) where
   sees-joinOf H seen o s c oc =
       joinSeen-same w c seen (bindings H) oc (λ x i. o x (is-binding H x .1 (s x .0 i .0))) o
       (λ x i. inr (is-binding H x .1 (s x .0 i .0)))
-      (λ x i. elim (either (equal x (emptyOf w))) [
+      (λ x i. elim (decided (equal x (emptyOf w))) [
         | inl e ↦ inl (equal-of x (emptyOf w) (so e))
         | inr e ↦ inr (s x .1 (is-binding H x .0 i, λ q. not-so e (of-equal x (emptyOf w) q)))
       ])

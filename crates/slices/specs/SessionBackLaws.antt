@@ -9,7 +9,8 @@ use lib.ListN.{length}
 use Rattle.document.specs.Limits.{width, seenStride, keptStride}
 use Rattle.document.specs.Tables.{numbersAt, seenRoom, keptRoom, seenRows, keptRows, seenTable, keptTable, filled}
 use Rattle.document.specs.Session.{Session, seenOf, keptOf, sessionWith, zeroBetween}
-use Rattle.slices.specs.ListsLaws.{length-tabulate, tabulate-all}
+use Rattle.basics.specs.Lists.{length-tabulate}
+use Rattle.slices.specs.ListsLaws.{tabulate-all}
 use Rattle.slices.specs.JoinSeenLaws.{OfWidth}
 use Rattle.slices.specs.TablesLaws.{keptAt, KeptWidth}
 use Rattle.slices.specs.TablesBackLaws.{length-numbersAt, joinedUp-rows, joinedUp-kept, filled-back}

@@ -2,8 +2,7 @@
 -- long as they were, and so do the report numbers.
 -- Assumes nothing.
 use Prim.Native.Nat.{ℕ, _*_, _≤_}
-use mathlib.Core.Path.{_≡_, refl, _∙_}
-use mathlib.Core.Bool.{Bool, true, false}
+use mathlib.Core.Path.{_≡_, _∙_}
 use mathlib.Core.List.{List}
 use mathlib.Core.List as list
 use native.Mathlib.Omega.{arith}
@@ -12,22 +11,15 @@ use lib.Dec.{ltb}
 use lib.ListN.{length, drop, length-append, length-take, length-drop, length-map}
 use Rattle.document.specs.Lists.{joinedUp}
 use Rattle.document.specs.Limits.{width, reportStride}
-use Rattle.document.specs.Refusals.{Refusal, noRoomForSeen, noRoomForKept, noRoomForReports, Answer, taken, refuseIf}
+use Rattle.document.specs.Refusals.{noRoomForSeen, noRoomForKept, noRoomForReports, taken, refuseIf}
 use Rattle.document.specs.OneEvent.{Kept}
 use Rattle.document.specs.Property.{Property, nextState}
 use Rattle.document.specs.Tables.{seenRoom, keptRoom, reportRoom}
 use Rattle.document.specs.Session.{Session, seenOf, keptOf, Happened, reportNumbers, reported, Outcome, outcome, written, withinRooms}
+use Rattle.basics.specs.Answers.{past-test, taken-one}
 use Rattle.slices.specs.ListsLaws.{in-map}
 use Rattle.slices.specs.MovesLaws.{length-reportsAfter}
 use Rattle.slices.specs.TablesLaws.{KeptWidth, length-joinedUp}
-
--- an answer that is taken has passed the first test
-pub passed : {A : Type 0} (t : Bool) (r : Refusal) (a : Answer A) (x : A) → refuseIf t r a ≡ taken x → (t ≡ false) × (a ≡ taken x)
-passed true r a x e = let z : _≡_ {A = ℕ} 0 1 = cc in absurd (omega arith)
-passed false r a x e = (refl, e)
-
-pub taken-same : {A : Type 0} (x y : A) → taken x ≡ taken y → x ≡ y
-taken-same x y e = cc
 
 -- what a step that is taken found and left
 pub record Stepped (from : ℕ) (p : Property) (s : Session) (reports : List ℕ) (o : Outcome) (h : Happened) : Type 0 where
@@ -45,14 +37,14 @@ stepped from p s reports o h q =
     let fullKept = ltb (keptRoom (s .kept)) (length (o .kept)) in
     let fullReports = ltb (reportRoom (drop from reports)) (length (o .rows)) in
     let from-reports = refuseIf fullReports noRoomForReports (taken left) in
-    let h₁ = passed fullSeen noRoomForSeen (refuseIf fullKept noRoomForKept from-reports) h q in
-    let h₂ = passed fullKept noRoomForKept from-reports h (h₁ .1) in
-    let h₃ = passed fullReports noRoomForReports (taken left) h (h₂ .1) in
+    let h₁ = past-test fullSeen noRoomForSeen (refuseIf fullKept noRoomForKept from-reports) h q in
+    let h₂ = past-test fullKept noRoomForKept from-reports h (h₁ .1) in
+    let h₃ = past-test fullReports noRoomForReports (taken left) h (h₂ .1) in
     record {
       seenRows = ltb-false (seenRoom (s .seen)) (length (o .seen)) (h₁ .0);
       keptRows = ltb-false (keptRoom (s .kept)) (length (o .kept)) (h₂ .0);
       reportRows = ltb-false (reportRoom (drop from reports)) (length (o .rows)) (h₃ .0);
-      is = taken-same left h (h₃ .1);
+      is = taken-one (h₃ .1);
     }
 
 -- an event reports no more rows than were kept, in any session

@@ -12,7 +12,7 @@ use Rattle.document.specs.Lists.{In}
 use Rattle.document.specs.Limits.{width}
 use Rattle.document.specs.Refusals.{taken}
 use Rattle.document.specs.Combinations.{zeroPast}
-use Rattle.document.specs.OneEvent.{Kept, see, movedFrom, moved, keptAfter}
+use Rattle.document.specs.OneEvent.{Kept, see, movedFrom, keptAfter}
 use Rattle.document.specs.Property.{Property, inRange, nextState}
 use Rattle.document.specs.Session.{Session, seenOf, keptOf, Happened, keeps, reported, outcome, written, stepFrom, sound}
 use Rattle.document.specs.Demands.{Proper}
@@ -32,12 +32,6 @@ use Rattle.slices.specs.CheckLaws.{SoundRows, sounds, of-sounds}
 
 module _ (p : Property) (r : inRange p ≡ true) (seen : List (List ℕ)) (kept : List Kept) (h : SoundRows p seen kept)
     (widths : OfWidth width seen) (e : ℕ) (b : List ℕ) (q : Proper p e b) where
-  abbrev seenAfter : List (List ℕ)
-  seenAfter = see width b seen
-
-  abbrev movedRows : List Kept
-  movedRows = moved width (nextState p) e b seen kept
-
   abbrev keptRows : List Kept
   keptRows = keptAfter width (nextState p) e b seen (keeps p) kept
 

@@ -15,8 +15,9 @@ use lib.Seq.{drop-cons, take-add, drop-drop, length-take-le}
 use Rattle.document.specs.Lists.{every, tabulate, joinedUp}
 use Rattle.document.specs.Tables.{numbersAt, keptNumbers, filled}
 use Rattle.document.specs.Session.{zeroBetween}
+use Rattle.basics.specs.Lists.{tabulate-same}
 use Rattle.slices.specs.TestsLaws.{so, and-of}
-use Rattle.slices.specs.ListsLaws.{tabulate-same, map-tabulate}
+use Rattle.slices.specs.ListsLaws.{map-tabulate}
 use Rattle.slices.specs.TablesLaws.{numbersAt-drop, keptAt, zeros, filled-front}
 
 -- Rows one after another -----------------------------------------------------------------------------------------------
@@ -26,7 +27,7 @@ unfolding numbersAt
 length-numbersAt zero t at = refl
 length-numbersAt (suc n) t at = ap suc (length-numbersAt n t (at + 1))
 
-numbersAt-take : (n : ℕ) (t : List ℕ) (at : ℕ) → at + n ≤ length t → numbersAt n t at ≡ take n (drop at t)
+pub numbersAt-take : (n : ℕ) (t : List ℕ) (at : ℕ) → at + n ≤ length t → numbersAt n t at ≡ take n (drop at t)
 unfolding numbersAt
 numbersAt-take zero t at h = refl
 numbersAt-take (suc n) t at h =
@@ -39,7 +40,7 @@ joinedUp-rows w (suc n) t h =
     let e : suc n * w ≡ w + n * w = omega arith in
     let first : numbersAt w t (0 * w) ≡ take w t = rw zero-mul (numbersAt-take w t 0 (omega arith)) in
     let shifted : tabulate n (λ k. numbersAt w t (suc k * w)) ≡ tabulate n (λ k. numbersAt w (drop w t) (k * w)) =
-    tabulate-same n (λ k. numbersAt w t (suc k * w)) (λ k. numbersAt w (drop w t) (k * w)) (λ k.
+    tabulate-same n (λ k. numbersAt w t (suc k * w)) (λ k. numbersAt w (drop w t) (k * w)) (λ k _.
     let q : suc k * w ≡ w + k * w = omega arith in
     rw q (numbersAt-drop w t w (k * w))) in
     rw (e, take-add w (n * w) t)
@@ -59,7 +60,7 @@ unfolding keptNumbers
 joinedUp-kept w n t h =
     ap joinedUp (map-tabulate keptNumbers n (λ i. keptAt w t (i * (w + 1)))
     ∙ tabulate-same n (λ i. keptNumbers (keptAt w t (i * (w + 1)))) (λ i. numbersAt (w + 1) t (i * (w + 1)))
-    (λ i. numbersAt-more w t (i * (w + 1))))
+    (λ i _. numbersAt-more w t (i * (w + 1))))
     ∙ joinedUp-rows (w + 1) n t h
 
 -- A room ---------------------------------------------------------------------------------------------------------------

@@ -16,8 +16,8 @@ use Rattle.document.specs.Lists.{In, every, tabulate, joinedUp}
 use Rattle.document.specs.OneEvent.{Kept}
 use Rattle.document.specs.Tables.{numbersAt, keptNumbers, filled}
 use Rattle.document.specs.Session.{zeroBetween}
+use Rattle.basics.specs.Lists.{tabulate-same}
 use Rattle.slices.specs.TestsLaws.{of-and, true-of}
-use Rattle.slices.specs.ListsLaws.{tabulate-same}
 use Rattle.slices.specs.JoinSeenLaws.{OfWidth}
 
 -- Rows one after another -----------------------------------------------------------------------------------------------
@@ -55,7 +55,7 @@ rows-back w (r ∷ rows) t o =
     let rest = joinedUp rows ++ t in
     rw (append-assoc r (joinedUp rows) t) (ap₂ _∷_
     (rw zero-mul (numbersAt-append w r rest (o r (inl refl))))
-    (tabulate-same (length rows) (λ k. numbersAt w (r ++ rest) (suc k * w)) (λ k. numbersAt w rest (k * w)) (λ k.
+    (tabulate-same (length rows) (λ k. numbersAt w (r ++ rest) (suc k * w)) (λ k. numbersAt w rest (k * w)) (λ k _.
     let q : suc k * w ≡ w + k * w = omega arith in
     rw (q, numbersAt-drop w (r ++ rest) w (k * w), drop-at r rest w (o r (inl refl))))
     ∙ rows-back w rows t (λ x i. o x (inr i))))
@@ -84,7 +84,7 @@ kept-back w (r ∷ rows) t o =
     let rest = joinedUp (list.map keptNumbers rows) ++ t in
     rw (append-assoc (keptNumbers r) (joinedUp (list.map keptNumbers rows)) t) (ap₂ _∷_
     (rw zero-mul (keptAt-append w r rest (o r (inl refl))))
-    (tabulate-same (length rows) (λ k. keptAt w (keptNumbers r ++ rest) (suc k * (w + 1))) (λ k. keptAt w rest (k * (w + 1))) (λ k.
+    (tabulate-same (length rows) (λ k. keptAt w (keptNumbers r ++ rest) (suc k * (w + 1))) (λ k. keptAt w rest (k * (w + 1))) (λ k _.
     let q : suc k * (w + 1) ≡ (w + 1) + k * (w + 1) = omega arith in
     let d : drop (w + 1) (keptNumbers r ++ rest) ≡ rest = drop-at (keptNumbers r) rest (w + 1) (length-keptNumbers w r (o r (inl refl))) in
     rw q (keptAt-drop w (keptNumbers r ++ rest) (w + 1) (k * (w + 1)) ∙ ap (λ (l : List ℕ). keptAt w l (k * (w + 1))) d))

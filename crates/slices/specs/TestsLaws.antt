@@ -9,6 +9,7 @@ use native.Mathlib.Omega.{arith}
 use native.Mathlib.Decide.{ℕ-discrete}
 use lib.Dec.{T, eqb, eqb→eq, eqb-refl}
 use Rattle.document.specs.Lists.{In, every, everyBelow, someBelow, equal, among, some}
+use Rattle.basics.specs.Tests.{both}
 
 -- a test holds or it does not
 pub so : {b : Bool} → b ≡ true → T b
@@ -24,10 +25,6 @@ true-of false t = absurd t
 pub false-of : (b : Bool) → (T b → ⊥) → b ≡ false
 false-of true f = absurd (f tt)
 false-of false f = refl
-
-pub either : (b : Bool) → (b ≡ true) ⊎ (b ≡ false)
-either true = inl refl
-either false = inr refl
 
 pub not-of : (b : Bool) → T (not b) → b ≡ false
 not-of true t = absurd t
@@ -52,9 +49,6 @@ and-of false b t = absurd t
 pub of-and : (a b : Bool) → T a → T b → T (a && b)
 of-and true b s t = t
 of-and false b s t = absurd s
-
-pub both : (a b : Bool) → a && b ≡ true → (a ≡ true) × (b ≡ true)
-both a b e = let h = and-of a b (so e) in (true-of a (h .0), true-of b (h .1))
 
 pub or-of : (a b : Bool) → T (a || b) → T a ⊎ T b
 or-of true b t = inl tt

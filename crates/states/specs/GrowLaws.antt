@@ -8,7 +8,6 @@ use mathlib.Core.Path.{_≡_, refl, sym, ap, ap₂, _∙_}
 use mathlib.Core.Logic.{_⊎_, inl, inr}
 use mathlib.Core.Bool.{Bool, cond}
 use mathlib.Core.List.{List, [], _∷_, _++_}
-use mathlib.Core.List as list
 use lib.ListN.{length, getD, take, set, replicate}
 use lib.Seq.{getD-take, length-take-le}
 use lib.Dec.{ltb}
@@ -20,9 +19,9 @@ use Rattle.document.specs.Patterns.{Pattern}
 use Rattle.document.specs.Positions as positions
 use Rattle.document.specs.Positions.{holds, move, startSet}
 use Rattle.document.specs.States.{Found, stateOf, find, findAll, rowOf, goThrough, statesOf}
-use Rattle.words.specs.Range.{tabulate-at, tabulate-past, tabulate-same, tabulate-next}
+use Rattle.basics.specs.Tests.{decided}
+use Rattle.basics.specs.Lists.{tabulate-at, tabulate-past, tabulate-same, tabulate-next, zero-at}
 use Rattle.sets.specs.ShapesLaws.{tabulate-is}
-use Rattle.bits.specs.BitsLaws.{split-bool}
 use Rattle.states.specs.Growing.{nextsOf, moveOf, movesOf, metAll, Row, Reads, Grows, transitions}
 use Rattle.states.specs.RowLaws.{find-longer}
 
@@ -96,7 +95,7 @@ find-all-longer anew p s e (suc n) found =
 -- no state is lost
 go-longer : (anew : Bool) (p : Pattern) (m i k : ℕ) (g : Found) → length (g .sets) ≤ length (goThrough anew p m i k g .sets)
 go-longer anew p m i zero g = rw (go-none anew p m i g) (omega arith)
-go-longer anew p m i (suc k) g = elim (split-bool (ltb i (length (g .sets)))) [
+go-longer anew p m i (suc k) g = elim (decided (ltb i (length (g .sets)))) [
   | inl e ↦
       let a = find-all-longer anew p (getD (g .sets) i 0) 0 m (g .sets) in
       let b = go-longer anew p m (suc i) k (turned anew p m i g) in
@@ -121,11 +120,6 @@ pub record Growing (after named : List ℕ) (base m : ℕ) (sets next : List ℕ
       → goThrough anew p m i (suc mostStates - i) (record { sets = take n sets; table = rowsOf i m next }) ≡ statesOf anew p m
   pub blank : (k e : ℕ) → e < mostEvents → (i ≤ k) ⊎ (m ≤ e) → getD next (k * mostEvents + e) 0 ≡ 0
 
-none-there : (n k : ℕ) → _≡_ {A = ℕ} (getD (replicate n 0) k 0) 0
-none-there zero k = refl
-none-there (suc n) zero = refl
-none-there (suc n) (suc k) = none-there n k
-
 pub growing-begin : (after named : List ℕ) (base m : ℕ) → m ≤ mostEvents
     → Growing after named base m (set (replicate 64 0) 0 startSet) (replicate 1024 0) 1 0
 unfolding statesOf rowsOf tabulate
@@ -136,13 +130,10 @@ growing-begin after named base m h = record {
   long-sets = refl;
   long-next = refl;
   left = λ p anew r. refl;
-  blank = λ k e l b. none-there 1024 (k * mostEvents + e);
+  blank = λ k e l b. zero-at 1024 (k * mostEvents + e);
 }
 
 module _ (after named : List ℕ) (base m : ℕ) (sets next : List ℕ) (n i : ℕ) (g : Growing after named base m sets next n i) where
-  now : Found
-  now = record { sets = take n sets; table = rowsOf i m next }
-
   first : length (take n sets) ≡ n
   first = let l = g .long-sets in let f = g .few in length-take-le n sets (omega arith)
 
@@ -236,8 +227,8 @@ module _ (after named : List ℕ) (base m : ℕ) (sets next : List ℕ) (n i : �
 
   place-is : (k e : ℕ) → e < mostEvents → getD next (k * mostEvents + e) 0 ≡ getD (getD (rowsOf i m next) k []) e 0
   unfolding rowsOf
-  place-is k e h = elim (split-bool (ltb k i)) [
-    | inl l ↦ rw (tabulate-at i (λ k. tabulate m (λ e. getD next (k * mostEvents + e) 0)) k [] (ltb-true k i l)) (elim (split-bool (ltb e m)) [
+  place-is k e h = elim (decided (ltb k i)) [
+    | inl l ↦ rw (tabulate-at i (λ k. tabulate m (λ e. getD next (k * mostEvents + e) 0)) k [] (ltb-true k i l)) (elim (decided (ltb e m)) [
       | inl d ↦ sym (tabulate-at m (λ e. getD next (k * mostEvents + e) 0) e 0 (ltb-true e m d))
       | inr d ↦ g .blank k e h (inr (ltb-false e m d)) ∙ sym (tabulate-past m (λ e. getD next (k * mostEvents + e) 0) e 0 (ltb-false e m d))
     ])

@@ -10,10 +10,11 @@ use mathlib.Core.List.{List, [], _∷_, _++_}
 use lib.ListN.{length, getD, take, set, length-set, length-append}
 use lib.Seq.{getD-take, getD-set-same, getD-set-other, length-take-le, take-suc-set, set-getD}
 use lib.Dec.{eqb, ltb}
-use borrow.Author.Tests.{eq-eqb, eqb-true, lt-ltb, le-ltb, ltb-true, ltb-false}
+use borrow.Author.Tests.{eq-eqb, lt-ltb, le-ltb, ltb-true, ltb-false}
 use Rattle.document.specs.Limits.{mostEvents, mostStates}
 use Rattle.document.specs.States.{stateOf, find}
-use Rattle.bits.specs.BitsLaws.{split-bool}
+use Rattle.basics.specs.Tests.{decided}
+use Rattle.words.specs.Places.{state-le, state-at}
 use Rattle.states.specs.Growing.{metAll, Row}
 
 -- The number of a set ---------------------------------------------------------------------------------------------------
@@ -26,26 +27,10 @@ state-other : (s x : ℕ) (l : List ℕ) → eqb s x ≡ false → stateOf s (x 
 unfolding stateOf
 state-other s x l e = rw (e, stateOf)
 
-pub state-le : (s : ℕ) (l : List ℕ) → stateOf s l ≤ length l
-unfolding stateOf
-state-le s [] = omega arith
-state-le s (x ∷ l) = elim (split-bool (eqb s x)) [
-  | inl e ↦ rw (state-same s x l e) (omega arith)
-  | inr e ↦ rw (state-other s x l e) (let k = state-le s l in omega arith)
-]
-
--- at its number stands the set
-state-at : (s : ℕ) (l : List ℕ) → stateOf s l < length l → getD l (stateOf s l) 0 ≡ s
-state-at s [] h = absurd (omega arith)
-state-at s (x ∷ l) h = elim (split-bool (eqb s x)) [
-  | inl e ↦ rw (state-same s x l e) (sym (eqb-true s x e))
-  | inr e ↦ rw (state-other s x l e) (state-at s l (let k = rw (state-other s x l e) at h in omega arith))
-]
-
 -- it keeps its number as others join, and a new one gets the next number
 state-append : (s : ℕ) (l m : List ℕ) → stateOf s l < length l → stateOf s (l ++ m) ≡ stateOf s l
 state-append s [] m h = absurd (omega arith)
-state-append s (x ∷ l) m h = elim (split-bool (eqb s x)) [
+state-append s (x ∷ l) m h = elim (decided (eqb s x)) [
   | inl e ↦ rw (state-same s x l e, state-same s x (l ++ m) e)
   | inr e ↦
       rw (state-other s x l e, state-other s x (l ++ m) e)
@@ -54,7 +39,7 @@ state-append s (x ∷ l) m h = elim (split-bool (eqb s x)) [
 
 state-new : (s : ℕ) (l : List ℕ) → length l ≤ stateOf s l → stateOf s (l ++ (s ∷ [])) ≡ length l
 state-new s [] h = state-same s s [] (eq-eqb s s refl)
-state-new s (x ∷ l) h = elim (split-bool (eqb s x)) [
+state-new s (x ∷ l) h = elim (decided (eqb s x)) [
   | inl e ↦ let k = rw (state-same s x l e) at h in absurd (omega arith)
   | inr e ↦ rw (state-other s x (l ++ (s ∷ [])) e) (ap suc (state-new s l (let k = rw (state-other s x l e) at h in omega arith)))
 ]
@@ -70,20 +55,20 @@ unfolding find
 find-new s l h = rw (le-ltb (stateOf s l) (length l) h, find)
 
 pub find-longer : (s : ℕ) (l : List ℕ) → length l ≤ length (find s l)
-find-longer s l = elim (split-bool (ltb (stateOf s l) (length l))) [
+find-longer s l = elim (decided (ltb (stateOf s l) (length l))) [
   | inl e ↦ rw (find-old s l (ltb-true _ _ e)) (omega arith)
   | inr e ↦ rw (find-new s l (ltb-false _ _ e), length-append) (omega arith)
 ]
 
 -- a set that was found keeps its number, and the one that joins has its own from then on
 state-find : (s t : ℕ) (l : List ℕ) → stateOf s l < length l → stateOf s (find t l) ≡ stateOf s l
-state-find s t l h = elim (split-bool (ltb (stateOf t l) (length l))) [
+state-find s t l h = elim (decided (ltb (stateOf t l) (length l))) [
   | inl e ↦ rw (find-old t l (ltb-true _ _ e))
   | inr e ↦ rw (find-new t l (ltb-false _ _ e)) (state-append s l (t ∷ []) h)
 ]
 
 state-find-self : (s : ℕ) (l : List ℕ) → stateOf s (find s l) ≡ stateOf s l
-state-find-self s l = elim (split-bool (ltb (stateOf s l) (length l))) [
+state-find-self s l = elim (decided (ltb (stateOf s l) (length l))) [
   | inl e ↦ rw (find-old s l (ltb-true _ _ e))
   | inr e ↦
       let h = ltb-false (stateOf s l) (length l) e in
@@ -91,7 +76,7 @@ state-find-self s l = elim (split-bool (ltb (stateOf s l) (length l))) [
 ]
 
 state-found : (s : ℕ) (l : List ℕ) → stateOf s l < length (find s l)
-state-found s l = elim (split-bool (ltb (stateOf s l) (length l))) [
+state-found s l = elim (decided (ltb (stateOf s l) (length l))) [
   | inl e ↦ let h = ltb-true (stateOf s l) (length l) e in rw (find-old s l h) h
   | inr e ↦ rw (find-new s l (ltb-false _ _ e), length-append) (let k = state-le s l in omega arith)
 ]

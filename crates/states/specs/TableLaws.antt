@@ -1,7 +1,7 @@
 -- Laws of the whole table: a shape has the lists of the pattern that it is the shape of, its table is the definition's, and the
 -- property table has its fields.
 -- Assumes nothing.
-use Prim.Native.Nat.{ℕ, zero, suc, _-_, _≤_, _<_}
+use Prim.Native.Nat.{ℕ, zero, suc, _≤_, _<_}
 use native.Mathlib.Omega.{arith}
 use mathlib.Core.Path.{_≡_, refl, sym, ap, _∙_}
 use mathlib.Core.Logic.{inl, inr}
@@ -18,16 +18,17 @@ use Rattle.document.specs.Patterns.{Pattern}
 use Rattle.document.specs.Positions as positions
 use Rattle.document.specs.Positions.{verdictOf}
 use Rattle.document.specs.States.{Found, statesOf}
-use Rattle.words.specs.Range.{tabulate-at, tabulate-length, tabulate-same}
 use Rattle.sets.specs.declared.Shape.{Shape}
 use Rattle.sets.specs.Shapes.{shapeOf}
-use Rattle.bits.specs.BitsLaws.{split-bool}
 use Rattle.states.specs.declared.Grown.{Grown}
 use Rattle.states.specs.declared.Table.{Table}
 use Rattle.states.specs.Growing.{Reads, Grows, verdictFrom, verdictsFrom, tooMany, tableOf, Tabled}
 use Rattle.document.specs.Declarations.{Declared}
 use Rattle.document.specs.Reading.{Parsed}
 use Rattle.document.specs.Translate.{propertyOf}
+use Rattle.basics.specs.Tests.{decided}
+use Rattle.basics.specs.Lists.{tabulate-at, length-tabulate, tabulate-same}
+use Rattle.words.specs.Table.{map-at}
 
 -- a pattern's shape has the pattern's lists
 shape-reads : (shape : Shape) (base : ℕ) (p : Pattern) (anew : Bool) → shape ≡ shapeOf p → base ≡ cond anew 1 0
@@ -40,7 +41,7 @@ shape-reads shape base p anew q b = record {
 }
   where
     long : length (shape .follow) ≡ 32
-    long = ap (λ (x : Shape). length (x .follow)) q ∙ tabulate-length 32 (positions.follows p)
+    long = ap (λ (x : Shape). length (x .follow)) q ∙ length-tabulate 32 (positions.follows p)
 
     go : (k : ℕ) → k < 32 → getD (set (shape .follow) 0 (shape .first)) k 0 ≡ positions.next p k
     go zero h = getD-set-same (shape .follow) 0 (shape .first) 0 (let l = long in omega arith) ∙ ap (λ (x : Shape). x .first) q
@@ -48,11 +49,6 @@ shape-reads shape base p anew q b = record {
         getD-set-other (shape .follow) 0 (suc k) (shape .first) 0 (λ (e : suc k ≡ 0). omega arith)
         ∙ ap (λ (x : Shape). getD (x .follow) (suc k) 0) q
         ∙ tabulate-at 32 (positions.follows p) (suc k) 0 h
-
-map-at : (f : ℕ → ℕ) (l : List ℕ) (k : ℕ) → k < length l → getD (list.map f l) k 0 ≡ f (getD l k 0)
-map-at f [] k h = absurd (omega arith)
-map-at f (x ∷ l) zero h = refl
-map-at f (x ∷ l) (suc k) h = map-at f l k (omega arith)
 
 map-past : (f : ℕ → ℕ) (l : List ℕ) (k : ℕ) → length l ≤ k → getD (list.map f l) k 0 ≡ 0
 map-past f [] k h = refl
@@ -66,7 +62,7 @@ verdict-is shape p s q = ap (λ (x : Shape). verdictFrom (x .null) (x .last) s) 
 verdicts-are : (shape : Shape) (p : Pattern) (n : ℕ) (sets : List ℕ) → shape ≡ shapeOf p → length (take n sets) ≡ n
     → verdictsFrom (shape .null) (shape .last) n sets ≡ tabulate mostStates (λ s. getD (list.map (verdictOf p) (take n sets)) s 0)
 unfolding verdictsFrom
-verdicts-are shape p n sets q l = tabulate-same mostStates _ _ (λ s h. elim (split-bool (ltb s n)) [
+verdicts-are shape p n sets q l = tabulate-same mostStates _ _ (λ s h. elim (decided (ltb s n)) [
   | inl e ↦
       let b = ltb-true s n e in
       rw e (verdict-is shape p (getD sets s 0) q ∙ sym (map-at (verdictOf p) (take n sets) s (omega arith) ∙ ap (verdictOf p) (getD-take n sets s 0 b)))
@@ -98,7 +94,7 @@ tabled-all shape m base g verdicts w h v = record {
 -- What a translator needs: whether there are too many states (refusal 10), and the property table by its fields.
 pub table-over : (p : Pattern) (g : Found) (r : Table) → r ≡ tableOf p g → r .over ≡ ltb mostStates (length (g .sets))
 unfolding tableOf
-table-over p g r q = elim (split-bool (ltb mostStates (length (g .sets)))) [
+table-over p g r q = elim (decided (ltb mostStates (length (g .sets)))) [
   | inl e ↦ ap (λ (x : Table). x .over) q ∙ rw e
   | inr e ↦ ap (λ (x : Table). x .over) q ∙ rw e
 ]

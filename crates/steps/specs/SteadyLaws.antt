@@ -6,7 +6,7 @@ use mathlib.Core.Logic.{inl, inr}
 use mathlib.Core.Bool.{Bool, true, _&&_}
 use mathlib.Core.List.{List, [], _∷_}
 use native.Mathlib.Omega.{arith}
-use lib.Dec.{T, eqb, ltb, ltb→lt}
+use lib.Dec.{eqb, ltb, ltb→lt}
 use lib.ListN.{length, getD, take, drop, length-take, length-drop}
 use lib.Seq.{getD-take, getD-drop}
 use borrow.Author.Tests.{eqb-true, lt-ltb}
@@ -17,26 +17,20 @@ use Rattle.document.specs.OneEvent.{Kept, joinSeen, inOrder, moves, movedFrom, 
 use Rattle.document.specs.Tables.{seenRoom, keptRoom, seenRows, keptRows}
 use Rattle.document.specs.Session.{Session, seenOf, keptOf, zeroBetween, keptCombinations, sound, keeps, reported, reportNumbers, outcome, written, withinRooms, stepFrom}
 use Rattle.words.specs.Range.{in-range-range}
-use Rattle.slices.specs.TestsLaws.{so, true-of, and-of, equal-of}
+use Rattle.slices.specs.TestsLaws.{so, true-of, and-of, equal-of, every-of}
 use Rattle.slices.specs.ListsLaws.{in-keepIf, in-map}
 use Rattle.slices.specs.OrderLaws.{combinations, ascending-of}
-use Rattle.combos.specs.NumbersLaws.{length-numbersAt}
-use Rattle.combos.specs.RowsLaws.{tabulate-in}
+use Rattle.slices.specs.SessionLaws.{seenRoom-holds, keptRoom-holds}
+use Rattle.slices.specs.SessionBackLaws.{keptOf-width}
 use Rattle.property.specs.Meaning.{Asks, Hopes}
 use Rattle.judge.specs.Sound.{rightlyKeptBy, soundBy-sound, sessionOf}
-use Rattle.judge.specs.SoundLaws.{Clauses, clauses-of, seen-room-inside, kept-room-inside}
-use Rattle.tables.specs.Tables.{rowAt, keptFrom}
+use Rattle.judge.specs.SoundLaws.{Clauses, clauses-of}
+use Rattle.tables.specs.Tables.{keptFrom}
 use Rattle.tables.specs.TablesLaws.{kept-rows}
 use Rattle.moves.specs.Steps.{stepOf, stateIn, outcomeBy}
 use Rattle.moves.specs.Ready.{Steady}
 use Rattle.writing.specs.Writing.{reportNumbersBy, writtenBy}
 use Rattle.steps.specs.Steps.{withinRoomsBy, stepBy}
-
-pub every-of : {A : Type 0} (p : A → Bool) (l : List A) → every p l ≡ true → (x : A) → In x l → p x ≡ true
-unfolding every
-every-of p [] e x i = absurd i
-every-of p (y ∷ l) e x (inl q) = rw q (true-of (p y) (and-of (p y) (every p l) (so e) .0))
-every-of p (y ∷ l) e x (inr i) = every-of p l (true-of (every p l) (and-of (p y) (every p l) (so e) .1)) x i
 
 all-zero : (l : List ℕ) → every (λ x. eqb x 0) l ≡ true → (k : ℕ) → k < length l → getD l k 0 ≡ 0
 unfolding every
@@ -53,12 +47,6 @@ zero-between from to t l e k g h =
 
 -- The check gives what the step needs ----------------------------------------------------------------------------------
 
-pub kept-width : (m : ℕ) (kept : List ℕ) (k : Kept) → In k (keptRows m kept) → length (k .combination) ≡ width
-unfolding keptRows
-kept-width m kept k i =
-    let r = tabulate-in m (λ j. rowAt kept (j * keptStride)) k i in
-    ap (λ (x : Kept). length (x .combination)) (r .is) ∙ length-numbersAt width kept (r .at * keptStride)
-
 module _ (p : Property) (r : inRange p ≡ true) (n m : ℕ) (seen kept : List ℕ) (s : sound p (sessionOf n m seen kept) ≡ true) where
   c₀ : Clauses (p .parameters) (p .states) (hopeful p) (sessionOf n m seen kept)
   c₀ = clauses-of (p .parameters) (p .states) (hopeful p) (sessionOf n m seen kept) (soundBy-sound p (sessionOf n m seen kept) ∙ s)
@@ -66,16 +54,10 @@ module _ (p : Property) (r : inRange p ≡ true) (n m : ℕ) (seen kept : List �
   pub rightly : (k : Kept) → In k (keptRows m kept) → (k .state < p .states) × (joinSeen width (k .combination) (seenRows n seen) ≡ k .combination)
   unfolding rightlyKeptBy keptOf seenOf
   rightly k i =
-      let e = every-of (rightlyKeptBy (p .states) (hopeful p) (seenRows n seen)) (keptRows m kept) (c₀ .rightly) k i in
-      let f = and-of (ltb (k .state) (p .states) && hopeful p (k .state)) (equal (joinSeen width (k .combination) (seenRows n seen)) (k .combination)) (so e) in
+      let e = every-of (rightlyKeptBy (p .states) (hopeful p) (seenRows n seen)) (keptRows m kept) (so (c₀ .rightly)) k i in
+      let f = and-of (ltb (k .state) (p .states) && hopeful p (k .state)) (equal (joinSeen width (k .combination) (seenRows n seen)) (k .combination)) e in
       let g = and-of (ltb (k .state) (p .states)) (hopeful p (k .state)) (f .0) in
       (ltb→lt (k .state) (p .states) (g .0), equal-of (joinSeen width (k .combination) (seenRows n seen)) (k .combination) (f .1))
-
-  pub rightly-state : (k : Kept) → In k (keptRows m kept) → T (ltb (k .state) (p .states) && hopeful p (k .state))
-  unfolding rightlyKeptBy keptOf seenOf
-  rightly-state k i =
-      let e = every-of (rightlyKeptBy (p .states) (hopeful p) (seenRows n seen)) (keptRows m kept) (c₀ .rightly) k i in
-      and-of (ltb (k .state) (p .states) && hopeful p (k .state)) (equal (joinSeen width (k .combination) (seenRows n seen)) (k .combination)) (so e) .0
 
   pub kept-range : (k : Kept) → In k (keptRows m kept) → k .state < p .states
   kept-range k i = rightly k i .0
@@ -87,17 +69,17 @@ module _ (p : Property) (r : inRange p ≡ true) (n m : ℕ) (seen kept : List �
       let in₀ : (k : Kept) → In k (keptFrom m kept 0) → In k (keptRows m kept) = λ k i. rw (kept-rows m kept) at i in
       record {
         moves = record { few = g .fewStates; event = let x = g .fewEvents in omega arith; onward = λ x y. g .next x e y h };
-        table = record { inside = let x = c₀ .seenFits in let y = seen-room-inside seen in omega arith; order = c₀ .seenOrder };
+        table = record { inside = let x = c₀ .seenFits in let y = seenRoom-holds seen in omega arith; order = c₀ .seenOrder };
         rows = record {
-          inside = let x = c₀ .keptFits in let y = kept-room-inside kept in omega arith;
+          inside = let x = c₀ .keptFits in let y = keptRoom-holds kept in omega arith;
           order = rw (kept-rows m kept) (ascending-of (combinations (keptRows m kept)) (c₀ .keptOrder));
-          right = λ k i. record { wide = kept-width m kept k (in₀ k i); joins = rightly k (in₀ k i) .1 };
+          right = λ k i. record { wide = keptOf-width (sessionOf n m seen kept) k (in₀ k i); joins = rightly k (in₀ k i) .1 };
           within = λ k i. rightly k (in₀ k i) .0;
         };
         seenFits = c₀ .seenFits;
         keptFits = c₀ .keptFits;
-        seenZero = zero-between (n * seenStride) (seenRoom seen * seenStride) seen (seen-room-inside seen) (c₀ .seenZero);
-        keptZero = zero-between (m * keptStride) (keptRoom kept * keptStride) kept (kept-room-inside kept) (c₀ .keptZero);
+        seenZero = zero-between (n * seenStride) (seenRoom seen * seenStride) seen (seenRoom-holds seen) (c₀ .seenZero);
+        keptZero = zero-between (m * keptStride) (keptRoom kept * keptStride) kept (keptRoom-holds kept) (c₀ .keptZero);
       }
 
 -- The step is the document's -------------------------------------------------------------------------------------------

@@ -13,10 +13,11 @@ use Rattle.document.specs.OneEvent.{Kept, insertKept, insertSeen}
 use Rattle.document.specs.Tables.{numbersAt}
 use Rattle.slices.specs.TestsLaws.{true-of}
 use Rattle.slices.specs.OrderLaws.{Ascends, combinations, insertKept-after, insertKept-here, insertSeen-after, insertSeen-here}
+use Rattle.slices.specs.TablesLaws.{keptAt}
 use Rattle.combos.specs.Rows.{Searchable, Parted}
 use Rattle.combos.specs.RowsLaws.{ascends-at}
 use Rattle.combos.specs.Writes.{SeenInserted, Inserted}
-use Rattle.tables.specs.Tables.{rowAt, keptFrom, seenFrom, Enterable, Entered}
+use Rattle.tables.specs.Tables.{keptFrom, seenFrom, Enterable, Entered}
 use Rattle.tables.specs.TablesLaws.{numbers-move, row-move, row-is, kept-move, seen-move, kept-tabulated, combinations-tabulated}
 
 -- A row put in order ---------------------------------------------------------------------------------------------------
@@ -26,7 +27,7 @@ enterable-searchable base n t u = record {
   inside = let i = u .inside in omega arith;
   wide = omega arith;
   order = λ i j h g. true-of _ (ascends-at n (λ k. numbersAt width t (base + k * keptStride))
-      (subst (λ (l : List (List ℕ)). Ascends l) (ap combinations (kept-tabulated n t base) ∙ combinations-tabulated n (λ k. rowAt t (base + k * keptStride))) (u .order)) i j h g);
+      (subst (λ (l : List (List ℕ)). Ascends l) (ap combinations (kept-tabulated n t base) ∙ combinations-tabulated n (λ k. keptAt width t (base + k * keptStride))) (u .order)) i j h g);
 }
 
 put-in : (d l at a n : ℕ) (c : List ℕ) (v : ℕ) (t t′ : List ℕ) → length c ≡ width → a ≡ at + d * keptStride → n ≡ at + (d + l) * keptStride
@@ -41,7 +42,7 @@ put-in zero (suc l) at a n c v t t′ o ea en low high u =
     let r : Kept = record { combination = c; state = v } in
     rw (zero-add, ← q) (ap₂ _∷_ (row-is c v t′ a o (u .row) (u .last))
     (kept-move (suc l) t t′ a (a + keptStride) (λ k h. ap (λ (x : ℕ). getD t′ x 0) (omega arith) ∙ u .mid (a + k) (omega arith) (omega arith)))
-    ∙ sym (insertKept-here r (rowAt t a) (keptFrom l t (a + keptStride)) (high (omega arith))))
+    ∙ sym (insertKept-here r (keptAt width t a) (keptFrom l t (a + keptStride)) (high (omega arith))))
 put-in (suc d) l at a n c v t t′ o ea en low high u =
     let z : at + 0 * keptStride ≡ at = omega arith in
     let r : Kept = record { combination = c; state = v } in
@@ -51,7 +52,7 @@ put-in (suc d) l at a n c v t t′ o ea en low high u =
     (put-in d l (at + keptStride) a n c v t t′ o (omega arith) (omega arith)
     (λ k h. let e : at + keptStride + k * keptStride ≡ at + suc k * keptStride = omega arith in rw e (low (suc k) (omega arith)))
     high u)
-    ∙ sym (insertKept-after r (rowAt t at) (keptFrom (d + l) t (at + keptStride)) first))
+    ∙ sym (insertKept-after r (keptAt width t at) (keptFrom (d + l) t (at + keptStride)) first))
 
 pub entered-of : (base n at : ℕ) (c : List ℕ) (s : ℕ) (t t′ : List ℕ) → length c ≡ width → Parted base keptStride n t c at
     → Inserted (base + at * keptStride) (base + n * keptStride) c s t t′ → Entered base n c s t t′

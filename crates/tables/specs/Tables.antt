@@ -8,14 +8,12 @@ use Rattle.document.specs.Limits.{width, seenStride, keptStride}
 use Rattle.document.specs.OneEvent.{Kept, insertKept}
 use Rattle.document.specs.Tables.{numbersAt}
 use Rattle.slices.specs.OrderLaws.{Ascends, combinations}
+use Rattle.slices.specs.TablesLaws.{keptAt}
 
--- the kept row at a place
-abbrev pub rowAt : List ℕ → ℕ → Kept
-rowAt t at = record { combination = numbersAt width t at; state = getD t (at + width) 0 }
-
+-- the kept rows, the seen rows, from a place on
 unfoldable pub keptFrom : ℕ → List ℕ → ℕ → List Kept
 keptFrom zero t at = []
-keptFrom (suc n) t at = rowAt t at ∷ keptFrom n t (at + keptStride)
+keptFrom (suc n) t at = keptAt width t at ∷ keptFrom n t (at + keptStride)
 
 unfoldable pub seenFrom : ℕ → List ℕ → ℕ → List (List ℕ)
 seenFrom zero t at = []

@@ -11,11 +11,13 @@ use Rattle.document.specs.Lists.{In, tabulate}
 use Rattle.document.specs.Limits.{width, seenStride, keptStride}
 use Rattle.document.specs.OneEvent.{Kept}
 use Rattle.document.specs.Tables.{numbersAt, seenRows, keptRows}
-use Rattle.slices.specs.ListsLaws.{tabulate-same}
+use Rattle.basics.specs.Lists.{tabulate-same}
 use Rattle.slices.specs.OrderLaws.{combinations}
-use Rattle.combos.specs.NumbersLaws.{length-numbersAt, getD-numbersAt}
+use Rattle.slices.specs.TablesBackLaws.{length-numbersAt}
+use Rattle.slices.specs.TablesLaws.{keptAt}
+use Rattle.combos.specs.NumbersLaws.{getD-numbersAt}
 use Rattle.combos.specs.RowsLaws.{in-tabulate}
-use Rattle.tables.specs.Tables.{rowAt, keptFrom, seenFrom}
+use Rattle.tables.specs.Tables.{keptFrom, seenFrom}
 
 -- Rows moved -----------------------------------------------------------------------------------------------------------
 
@@ -26,11 +28,11 @@ numbers-move w t t′ at at′ f =
     let g : k < w = let l = length-numbersAt w t′ at′ in omega arith in
     getD-numbersAt w t′ at′ k g ∙ f k g ∙ sym (getD-numbersAt w t at k g))
 
-pub row-move : (t t′ : List ℕ) (at at′ : ℕ) → ((k : ℕ) → k < keptStride → getD t′ (at′ + k) 0 ≡ getD t (at + k) 0) → rowAt t′ at′ ≡ rowAt t at
+pub row-move : (t t′ : List ℕ) (at at′ : ℕ) → ((k : ℕ) → k < keptStride → getD t′ (at′ + k) 0 ≡ getD t (at + k) 0) → keptAt width t′ at′ ≡ keptAt width t at
 row-move t t′ at at′ f = λ i. record { combination = numbers-move width t t′ at at′ (λ k h. f k (omega arith)) i; state = f width (omega arith) i }
 
 pub row-is : (c : List ℕ) (s : ℕ) (t : List ℕ) (at : ℕ) → length c ≡ width → ((k : ℕ) → k < width → getD t (at + k) 0 ≡ getD c k 0) → getD t (at + width) 0 ≡ s
-    → rowAt t at ≡ record { combination = c; state = s }
+    → keptAt width t at ≡ record { combination = c; state = s }
 row-is c s t at o f q =
     let e : numbersAt width t at ≡ c = ext-getD 0 (numbersAt width t at) c (length-numbersAt width t at ∙ sym o) (λ k h.
     let g : k < width = let l = length-numbersAt width t at in omega arith in
@@ -70,41 +72,41 @@ length-seenFrom zero t at = refl
 length-seenFrom (suc n) t at = ap suc (length-seenFrom n t (at + seenStride))
 
 -- one row more, at the end
-pub kept-more : (n : ℕ) (t : List ℕ) (at : ℕ) → keptFrom (n + 1) t at ≡ keptFrom n t at ++ (rowAt t (at + n * keptStride) ∷ [])
+pub kept-more : (n : ℕ) (t : List ℕ) (at : ℕ) → keptFrom (n + 1) t at ≡ keptFrom n t at ++ (keptAt width t (at + n * keptStride) ∷ [])
 unfolding keptFrom
 kept-more zero t at = let z : at + 0 * keptStride ≡ at = omega arith in rw z
 kept-more (suc n) t at =
     let z : at + suc n * keptStride ≡ at + keptStride + n * keptStride = omega arith in
-    rw (z, suc-add) (ap (λ (l : List Kept). rowAt t at ∷ l) (kept-more n t (at + keptStride)))
+    rw (z, suc-add) (ap (λ (l : List Kept). keptAt width t at ∷ l) (kept-more n t (at + keptStride)))
 
 -- the rows of the table as document 01 lists them
-pub kept-tabulated : (n : ℕ) (t : List ℕ) (at : ℕ) → keptFrom n t at ≡ tabulate n (λ i. rowAt t (at + i * keptStride))
+pub kept-tabulated : (n : ℕ) (t : List ℕ) (at : ℕ) → keptFrom n t at ≡ tabulate n (λ i. keptAt width t (at + i * keptStride))
 unfolding keptFrom tabulate
 kept-tabulated zero t at = refl
 kept-tabulated (suc n) t at =
     let z : at + 0 * keptStride ≡ at = omega arith in
-    ap₂ _∷_ (ap (rowAt t) (sym z)) (kept-tabulated n t (at + keptStride) ∙ tabulate-same n (λ i. rowAt t (at + keptStride + i * keptStride)) (λ i. rowAt t (at + suc i * keptStride)) (λ i.
-    ap (rowAt t) (omega arith)))
+    ap₂ _∷_ (ap (keptAt width t) (sym z)) (kept-tabulated n t (at + keptStride) ∙ tabulate-same n (λ i. keptAt width t (at + keptStride + i * keptStride)) (λ i. keptAt width t (at + suc i * keptStride)) (λ i _.
+    ap (keptAt width t) (omega arith)))
 
 pub kept-rows : (n : ℕ) (t : List ℕ) → keptFrom n t 0 ≡ keptRows n t
 unfolding keptRows
-kept-rows n t = kept-tabulated n t 0 ∙ tabulate-same n (λ i. rowAt t (0 + i * keptStride)) (λ i. rowAt t (i * keptStride)) (λ i. ap (rowAt t) (zero-add (i * keptStride)))
+kept-rows n t = kept-tabulated n t 0 ∙ tabulate-same n (λ i. keptAt width t (0 + i * keptStride)) (λ i. keptAt width t (i * keptStride)) (λ i _. ap (keptAt width t) (zero-add (i * keptStride)))
 
 seen-tabulated : (n : ℕ) (t : List ℕ) (at : ℕ) → seenFrom n t at ≡ tabulate n (λ i. numbersAt width t (at + i * seenStride))
 unfolding seenFrom tabulate
 seen-tabulated zero t at = refl
 seen-tabulated (suc n) t at =
     let z : at + 0 * seenStride ≡ at = omega arith in
-    ap₂ _∷_ (ap (numbersAt width t) (sym z)) (seen-tabulated n t (at + seenStride) ∙ tabulate-same n (λ i. numbersAt width t (at + seenStride + i * seenStride)) (λ i. numbersAt width t (at + suc i * seenStride)) (λ i.
+    ap₂ _∷_ (ap (numbersAt width t) (sym z)) (seen-tabulated n t (at + seenStride) ∙ tabulate-same n (λ i. numbersAt width t (at + seenStride + i * seenStride)) (λ i. numbersAt width t (at + suc i * seenStride)) (λ i _.
     ap (numbersAt width t) (omega arith)))
 
 pub seen-rows : (n : ℕ) (t : List ℕ) → seenFrom n t 0 ≡ seenRows n t
 unfolding seenRows
-seen-rows n t = seen-tabulated n t 0 ∙ tabulate-same n (λ i. numbersAt width t (0 + i * seenStride)) (λ i. numbersAt width t (i * seenStride)) (λ i. ap (numbersAt width t) (zero-add (i * seenStride)))
+seen-rows n t = seen-tabulated n t 0 ∙ tabulate-same n (λ i. numbersAt width t (0 + i * seenStride)) (λ i. numbersAt width t (i * seenStride)) (λ i _. ap (numbersAt width t) (zero-add (i * seenStride)))
 
 -- a row is one of them
-pub row-in : (n : ℕ) (t : List ℕ) (at i : ℕ) → i < n → In (rowAt t (at + i * keptStride)) (keptFrom n t at)
-row-in n t at i h = rw (kept-tabulated n t at) (in-tabulate n (λ k. rowAt t (at + k * keptStride)) i h)
+pub row-in : (n : ℕ) (t : List ℕ) (at i : ℕ) → i < n → In (keptAt width t (at + i * keptStride)) (keptFrom n t at)
+row-in n t at i h = rw (kept-tabulated n t at) (in-tabulate n (λ k. keptAt width t (at + k * keptStride)) i h)
 
 pub combinations-tabulated : (n : ℕ) (f : ℕ → Kept) → combinations (tabulate n f) ≡ tabulate n (λ i. f i .combination)
 unfolding tabulate
@@ -117,7 +119,7 @@ unfolding keptFrom
 kept-split zero c t at = let z : at + 0 * keptStride ≡ at = omega arith in rw (zero-add, z)
 kept-split (suc a) c t at =
     let z : at + suc a * keptStride ≡ at + keptStride + a * keptStride = omega arith in
-    rw (z, suc-add a c) (ap (λ (l : List Kept). rowAt t at ∷ l) (kept-split a c t (at + keptStride)))
+    rw (z, suc-add a c) (ap (λ (l : List Kept). keptAt width t at ∷ l) (kept-split a c t (at + keptStride)))
 
 pub kept-two : (i m : ℕ) (t : List ℕ) → i ≤ m → keptFrom m t 0 ≡ keptFrom i t 0 ++ keptFrom (m - i) t (i * keptStride)
 kept-two i m t h =

@@ -5,24 +5,20 @@ use mathlib.Core.Path.{_≡_, refl, sym, ap, ap₂, _∙_}
 use mathlib.Core.List.{List, [], _∷_, _++_, append-assoc}
 use mathlib.Core.List as list
 use native.Mathlib.Omega.{arith}
-use native.Mathlib.Numerals.{add-one}
 use lib.ListN.{length, getD, take, drop, replicate, length-take, length-drop, length-replicate, getD-replicate, take-append-drop}
 use lib.Seq.{ext-getD, getD-take, getD-drop, take-add, drop-drop, drop-cons}
 use Rattle.document.specs.Lists.{joinedUp}
 use Rattle.document.specs.Limits.{width, seenStride, keptStride}
 use Rattle.document.specs.OneEvent.{Kept}
 use Rattle.document.specs.Tables.{numbersAt, seenRoom, keptRoom, keptNumbers, filled, seenTable, keptTable}
-use Rattle.tables.specs.Tables.{rowAt, keptFrom, seenFrom}
+use Rattle.slices.specs.TablesBackLaws.{numbersAt-take}
+use Rattle.slices.specs.TablesLaws.{keptAt}
+use Rattle.tables.specs.Tables.{keptFrom, seenFrom}
 
-numbers-part : (n : ℕ) (t : List ℕ) (at : ℕ) → at + n ≤ length t → numbersAt n t at ≡ take n (drop at t)
-unfolding numbersAt
-numbers-part zero t at h = refl
-numbers-part (suc n) t at h = rw (drop-cons t at 0 (omega arith)) (ap (λ (l : List ℕ). getD t at 0 ∷ l) (numbers-part n t (at + 1) (omega arith) ∙ rw add-one))
-
-row-part : (t : List ℕ) (at : ℕ) → at + keptStride ≤ length t → keptNumbers (rowAt t at) ≡ take keptStride (drop at t)
+row-part : (t : List ℕ) (at : ℕ) → at + keptStride ≤ length t → keptNumbers (keptAt width t at) ≡ take keptStride (drop at t)
 unfolding keptNumbers
 row-part t at h =
-    let a : numbersAt width t at ≡ take width (drop at t) = numbers-part width t at (omega arith) in
+    let a : numbersAt width t at ≡ take width (drop at t) = numbersAt-take width t at (omega arith) in
     let b : take 1 (drop (at + width) t) ≡ getD t (at + width) 0 ∷ [] = rw (drop-cons t (at + width) 0 (omega arith)) in
     rw (a, take-add width 1 (drop at t), drop-drop width at t, b)
 
@@ -40,7 +36,7 @@ seen-numbers zero t at h = refl
 seen-numbers (suc n) t at h =
     let z : suc n * seenStride ≡ seenStride + n * seenStride = omega arith in
     rw (z, take-add seenStride (n * seenStride) (drop at t), drop-drop seenStride at t)
-    (ap₂ _++_ (numbers-part width t at (omega arith)) (seen-numbers n t (at + seenStride) (omega arith)))
+    (ap₂ _++_ (numbersAt-take width t at (omega arith)) (seen-numbers n t (at + seenStride) (omega arith)))
 
 -- tables with the same numbers before a place, from a place on
 pub take-same : (at : ℕ) (t t′ : List ℕ) → length t′ ≡ length t → ((k : ℕ) → k < at → getD t′ k 0 ≡ getD t k 0) → take at t′ ≡ take at t

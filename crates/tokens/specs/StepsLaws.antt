@@ -1,54 +1,43 @@
 -- What is seen at a place: from the token there to the tokens that are left, and from its kind to the tests of the definitions.
 -- Assumes nothing.
 use Prim.Native.Nat.{ℕ, _+_, _-_, _≤_, _<_}
-use mathlib.Core.Path.{_≡_, refl, ap, _∙_}
-use mathlib.Core.Logic.{_⊎_, inl, inr, ⊎-elim}
-use mathlib.Core.Bool.{Bool, true, false, _&&_}
+use mathlib.Core.Path.{_≡_, refl, sym, ap, _∙_}
+use mathlib.Core.Logic.{inl, inr, ⊎-elim}
+use mathlib.Core.Bool.{false, _&&_}
 use mathlib.Core.List.{List, [], _∷_}
 use lib.ListN.{length, getD, take, drop, length-drop}
 use lib.Dec.{eqb, leb, ltb}
 use native.Mathlib.Omega.{arith}
 use borrow.Author.Tests.{ne-eqb, leb-true, ltb-true, ltb-false}
-use Rattle.document.specs.Lists.{takeWhile, startsWith}
+use Rattle.document.specs.Lists.{startsWith}
 use Rattle.document.specs.Classes.{classOf, isNameByte, letter, atSign, opening, plus, matchWord, failWord}
 use Rattle.document.specs.Declarations.{nameRun}
 use Rattle.document.specs.Tokens as doc
 use Rattle.document.specs.Tokens.{word, mark, ask, noToken, askToken, tokenAt, offsetOf, isMarkOf, beginsAtom}
 use Rattle.document.specs.Reading.{nextIs, past}
-use Rattle.rows.specs.RowsLaws.{drop-here, split-bool}
+use Rattle.basics.specs.Tests.{decided, both}
+use Rattle.basics.specs.Lists.{run-part}
+use Rattle.rows.specs.RowsLaws.{drop-here}
 use Rattle.tokens.specs.declared.Token.{Token}
 use Rattle.tokens.specs.declared.Step.{Step}
 use Rattle.tokens.specs.Lexing.{beginsKind, kindOf, wordKind, endKind, shown, tokenHere, lexemesAt}
 use Rattle.tokens.specs.Steps.{skipTo, Begins, Sort, Stands, Looks}
 use Rattle.tokens.specs.TokensLaws.{token-size, lexemes-token, lexemes-skip, lexemes-end, skip-begins}
 
--- a run is that many of the first bytes
-run-take : (p : ℕ → Bool) (t : List ℕ) → takeWhile p t ≡ take (length (takeWhile p t)) t
-unfolding takeWhile
-run-take p [] = refl
-run-take p (b ∷ t) = elim (split-bool (p b)) [
-  | inl e ↦ rw (e, takeWhile) (ap (λ l. b ∷ l) (run-take p t))
-  | inr e ↦ rw (e, takeWhile)
-]
-
 ask-sort : (u t : List ℕ) → Sort u (askToken t .token)
 unfolding askToken
-ask-sort u t = elim (split-bool (startsWith matchWord t)) [
+ask-sort u t = elim (decided (startsWith matchWord t)) [
   | inl m ↦ rw m (inl refl)
-  | inr m ↦ rw m (elim (split-bool (startsWith failWord t)) [ inl f ↦ rw f (inr refl) | inr f ↦ rw f tt ])
+  | inr m ↦ rw m (elim (decided (startsWith failWord t)) [ inl f ↦ rw f (inr refl) | inr f ↦ rw f tt ])
 ]
-
-both : (x y : Bool) → x && y ≡ true → (x ≡ true) × (y ≡ true)
-both true y q = (refl, q)
-both false y q = let z : _≡_ {A = ℕ} 0 1 = cc in absurd (omega arith)
 
 token-sort : (b : ℕ) (t : List ℕ) → Sort (take (tokenAt b t .size) (b ∷ t)) (tokenAt b t .token)
 unfolding tokenAt nameRun
-token-sort b t = elim (split-bool (eqb (classOf b) letter)) [
-  | inl e ↦ rw e (run-take isNameByte (b ∷ t))
-  | inr e ↦ rw e (elim (split-bool (eqb (classOf b) atSign)) [
+token-sort b t = elim (decided (eqb (classOf b) letter)) [
+  | inl e ↦ rw e (sym (run-part isNameByte (b ∷ t)))
+  | inr e ↦ rw e (elim (decided (eqb (classOf b) atSign)) [
     | inl a ↦ rw a (ask-sort _ t)
-    | inr a ↦ rw a (elim (split-bool (leb opening (classOf b) && leb (classOf b) plus)) [
+    | inr a ↦ rw a (elim (decided (leb opening (classOf b) && leb (classOf b) plus)) [
       | inl m ↦ rw m (let g = both (leb opening (classOf b)) (leb (classOf b) plus) m in (leb-true _ _ (g .0), leb-true _ _ (g .1)))
       | inr m ↦ rw m tt
     ])
@@ -89,7 +78,7 @@ module _ (s : List ℕ) (at next : ℕ) (g : Begins s at) where
 
   pub looks-says : (t : Token) → t ≡ tokenHere s at → next ≡ skipTo s (t .end) → Looks s at (record { kind = t .kind; end = t .end; next = next })
   unfolding tokenHere shown
-  looks-says t e q = elim (split-bool (ltb at (length s))) [
+  looks-says t e q = elim (decided (ltb at (length s))) [
     | inl h ↦ let e′ = rw h at e in rw e′ (looks-token (ltb-true at (length s) h) (rw e′ at q))
     | inr h ↦ let e′ = rw h at e in rw e′ (looks-end (ltb-false at (length s) h) (rw e′ at q))
   ]
@@ -160,7 +149,7 @@ module _ (s : List ℕ) (at : ℕ) (r : Step) (look : Looks s at r) where
 -- the first of the tokens that are left stands at the place itself
 pub offset-here : (s : List ℕ) (at : ℕ) → Begins s at → offsetOf s (lexemesAt s at) ≡ at
 unfolding offsetOf
-offset-here s at g = elim (split-bool (ltb at (length s))) [
+offset-here s at g = elim (decided (ltb at (length s))) [
   | inl h ↦ rw (lexemes-token s at g (ltb-true at (length s) h))
   | inr h ↦ let i = g .inside in let l = ltb-false at (length s) h in rw (lexemes-end s at l) (omega arith)
 ]

@@ -13,7 +13,9 @@ use Rattle.document.specs.Lists.{takeWhile, startsWith}
 use Rattle.document.specs.Classes.{classOf, isBlank, isNameByte, letter, atSign, opening, plus, matchWord, failWord}
 use Rattle.document.specs.Declarations.{nameRun}
 use Rattle.document.specs.Tokens.{askToken, tokenAt, lexemesFrom}
-use Rattle.rows.specs.RowsLaws.{drop-here, drop-end, split-bool}
+use Rattle.basics.specs.Tests.{decided}
+use Rattle.basics.specs.Lists.{run-within}
+use Rattle.rows.specs.RowsLaws.{drop-here, drop-end}
 use Rattle.tokens.specs.Lexing.{lexemesAt}
 use Rattle.tokens.specs.Steps.{skipTo, Begins}
 
@@ -27,7 +29,7 @@ pass (suc k) at (b ∷ t) = let e : at + suc k ≡ at + 1 + k = omega arith in r
 pass-blanks : (at : ℕ) (t : List ℕ) → lexemesFrom 0 at t ≡ lexemesFrom 0 (at + length (takeWhile isBlank t)) (drop (length (takeWhile isBlank t)) t)
 unfolding lexemesFrom takeWhile
 pass-blanks at [] = refl
-pass-blanks at (b ∷ t) = elim (split-bool (isBlank b)) [
+pass-blanks at (b ∷ t) = elim (decided (isBlank b)) [
   | inl e ↦ let k : at + suc (length (takeWhile isBlank t)) ≡ at + 1 + length (takeWhile isBlank t) = omega arith in
       rw (e, lexemesFrom, takeWhile, k) (pass-blanks (at + 1) t)
   | inr e ↦ let k : at + 0 ≡ at = omega arith in rw (e, takeWhile, k)
@@ -41,19 +43,11 @@ pub lexemes-end : (s : List ℕ) (at : ℕ) → length s ≤ at → lexemesAt s 
 unfolding lexemesAt lexemesFrom
 lexemes-end s at h = rw (drop-end s at h)
 
--- a run of bytes is no longer than what there is, and stops at a byte that does not pass
-run-within : (p : ℕ → Bool) (t : List ℕ) → length (takeWhile p t) ≤ length t
-unfolding takeWhile
-run-within p [] = omega arith
-run-within p (b ∷ t) = elim (split-bool (p b)) [
-  | inl e ↦ rw (e, takeWhile) (let k = run-within p t in omega arith)
-  | inr e ↦ rw (e, takeWhile) (omega arith)
-]
-
+-- a run stops at a byte that does not pass
 run-stop : (p : ℕ → Bool) (t : List ℕ) → length (takeWhile p t) < length t → p (getD t (length (takeWhile p t)) 0) ≡ false
 unfolding takeWhile
 run-stop p [] h = absurd (omega arith)
-run-stop p (b ∷ t) h = elim (split-bool (p b)) [
+run-stop p (b ∷ t) h = elim (decided (p b)) [
   | inl e ↦
       let m : length (takeWhile p t) < length t = let g = rw (e, takeWhile) at h in omega arith in
       rw (e, takeWhile) (run-stop p t m)
@@ -92,9 +86,9 @@ name-size b t e = rw (run-first isNameByte b t e) (let k = run-within isNameByte
 
 ask-size : (t : List ℕ) → (1 ≤ askToken t .size) × (askToken t .size ≤ suc (length t))
 unfolding askToken
-ask-size t = elim (split-bool (startsWith matchWord t)) [
+ask-size t = elim (decided (startsWith matchWord t)) [
   | inl m ↦ rw m (let k = starts-within matchWord t m in (lit≤ tt, omega arith))
-  | inr m ↦ rw m (elim (split-bool (startsWith failWord t)) [
+  | inr m ↦ rw m (elim (decided (startsWith failWord t)) [
     | inl f ↦ rw f (let k = starts-within failWord t f in (lit≤ tt, omega arith))
     | inr f ↦ rw f (lit≤ tt, omega arith)
   ])
@@ -102,11 +96,11 @@ ask-size t = elim (split-bool (startsWith matchWord t)) [
 
 pub token-size : (b : ℕ) (t : List ℕ) → (1 ≤ tokenAt b t .size) × (tokenAt b t .size ≤ suc (length t))
 unfolding tokenAt nameRun
-token-size b t = elim (split-bool (eqb (classOf b) letter)) [
+token-size b t = elim (decided (eqb (classOf b) letter)) [
   | inl e ↦ let g = name-size b t (rw e) in rw e g
-  | inr e ↦ rw e (elim (split-bool (eqb (classOf b) atSign)) [
+  | inr e ↦ rw e (elim (decided (eqb (classOf b) atSign)) [
     | inl a ↦ rw a (ask-size t)
-    | inr a ↦ rw a (elim (split-bool (leb opening (classOf b) && leb (classOf b) plus)) [
+    | inr a ↦ rw a (elim (decided (leb opening (classOf b) && leb (classOf b) plus)) [
       | inl m ↦ rw m (lit≤ tt, omega arith)
       | inr m ↦ rw m (lit≤ tt, omega arith)
     ])

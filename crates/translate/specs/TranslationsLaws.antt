@@ -14,12 +14,12 @@ use Rattle.document.specs.Lists.{tabulate}
 use Rattle.document.specs.Limits.{textBytes, mostEvents}
 use Rattle.document.specs.Refusals.{Refusal, textTooLong, tooManyStates, number, Answer, taken, refused}
 use Rattle.document.specs.RefusalsLaws.{number-some}
-use Rattle.document.specs.Declarations.{Declared, declarations}
+use Rattle.document.specs.Declarations.{Declared}
 use Rattle.document.specs.DeclarationsLaws.{declarations-offset}
 use Rattle.document.specs.Reading as doc
 use Rattle.document.specs.States.{statesOf}
 use Rattle.document.specs.Translate.{anew, translate}
-use Rattle.rows.specs.RowsLaws.{split-bool}
+use Rattle.basics.specs.Tests.{decided}
 use Rattle.words.specs.Taken.{declarations-fit}
 use Rattle.readings.specs.declared.Reading.{Reading}
 use Rattle.readings.specs.Readings.{padded, namesAt, Stands, Reads, Inside}
@@ -66,7 +66,7 @@ padded-is l h = tabulate-is mostEvents (λ e. getD l e 0) (l ++ replicate (mostE
     (simp (length-append, length-replicate) (omega arith)) (λ k _. entry k)
   where
     entry : (k : ℕ) → getD (l ++ replicate (mostEvents - length l) 0) k 0 ≡ getD l k 0
-    entry k = elim (split-bool (ltb k (length l))) [
+    entry k = elim (decided (ltb k (length l))) [
       | inl i ↦ List·getD-append l (replicate (mostEvents - length l) 0) 0 k (ltb-true k (length l) i)
       | inr i ↦
           let j = ltb-false k (length l) i in
@@ -77,7 +77,7 @@ padded-is l h = tabulate-is mostEvents (λ e. getD l e 0) (l ++ replicate (mostE
     ]
       where
         zeros : (n i : ℕ) → _≡_ {A = ℕ} (getD (replicate n 0) i 0) 0
-        zeros n i = elim (split-bool (ltb i n)) [
+        zeros n i = elim (decided (ltb i n)) [
           | inl h ↦ getD-replicate n i 0 0 (ltb-true i n h)
           | inr h ↦ List·getD-eq-default (replicate n 0) 0 (let j = ltb-false i n h in rw length-replicate j)
         ]

@@ -17,8 +17,9 @@ use Rattle.document.specs.Limits.{mostStates}
 use Rattle.document.specs.Patterns.{Pattern, Among}
 use Rattle.document.specs.Positions.{move, startSet, setAfter}
 use Rattle.document.specs.States.{Found, stateOf, find, findAll, rowOf, goThrough, statesOf}
+use Rattle.basics.specs.Lists.{Distinct, in-append}
 use Rattle.words.specs.Moves.{set-after-empty, set-after-event}
-use Rattle.words.specs.Places.{Distinct, state-at, in-state, at-in, in-append, Extends, extends-itself, extends-twice, extends-length, extends-at, extends-in, Finds, find-finds}
+use Rattle.words.specs.Places.{state-at, in-state, at-in, Extends, extends-itself, extends-twice, extends-length, extends-at, extends-in, Finds, find-finds}
 
 -- the table's entry for state k and event e
 abbrev pub entryOf : Found → ℕ → ℕ → ℕ
@@ -37,7 +38,7 @@ module _ (anew : Bool) (r : Pattern) (m : ℕ) where
   pub reached-move : (x e : ℕ) → Reached x → e < m → Reached (move anew r x e)
   reached-move x e h l = record {
     sequence = h .sequence ++ (e ∷ []);
-    declared = λ f i. ⊎-elim (h .declared f) (⊎-elim (λ (j : f ≡ e). omega arith) (λ j. absurd j)) (in-append f (h .sequence) (e ∷ []) i);
+    declared = λ f i. ⊎-elim (h .declared f) (⊎-elim (λ (j : f ≡ e). omega arith) (λ j. absurd j)) (in-append f (h .sequence) (e ∷ []) .0 i);
     is = set-after-event anew r (h .sequence) e ∙ ap (λ (s : ℕ). move anew r s e) (h .is);
   }
 

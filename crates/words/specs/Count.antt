@@ -17,7 +17,8 @@ use Rattle.document.specs.Limits.{mostStates}
 use Rattle.document.specs.Patterns.{Pattern, Among}
 use Rattle.document.specs.Positions.{setAfter}
 use Rattle.document.specs.States.{Found, statesOf, Apart, MoreStates}
-use Rattle.words.specs.Places.{Distinct, distinct-length}
+use Rattle.basics.specs.Lists.{Distinct}
+use Rattle.words.specs.Places.{distinct-length}
 use Rattle.words.specs.Closed.{Reached, Through, Ended, states-ended, states-closed}
 use Rattle.words.specs.Walks.{set-after-in}
 

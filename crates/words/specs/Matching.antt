@@ -14,7 +14,8 @@ use borrow.Author.Tests.{ne-eqb, eqb-true, eqb-false, not-true}
 use Rattle.document.specs.Limits.{mostNames}
 use Rattle.document.specs.Patterns.{Pattern, Word, Begins, TotalMatching, match, fail, undecided}
 use Rattle.document.specs.Positions.{Stops, StopsAt, holds, nullable, lasts, next, named, move, startSet, setFrom, setAfter, verdictOf}
-use Rattle.words.specs.Sets.{Has, none-has, has-and, and-has, member, empty, start-has, has-start, or-cases, or-left, or-right, and-both, and-left, and-right}
+use Rattle.basics.specs.Tests.{and-left, and-right}
+use Rattle.words.specs.Sets.{Has, none-has, has-and, and-has, member, empty, start-has, has-start, or-cases, or-left, or-right, and-both}
 use Rattle.words.specs.Numbers.{Numbered, stops-lie, lasts-lie}
 use Rattle.words.specs.Parts.{clash, right-nil}
 use Rattle.words.specs.Readings.{nullable-word, Ends, nowhere, word-ends, Stopped, unread, begins-stopped, begins-empty, stops-begins}
@@ -36,10 +37,6 @@ module _ (r : Pattern) (hi : ℕ) (n : Numbered r 0 hi) where
   stops-stops-at : (p : ℕ) (w : List ℕ) → Stops r p w → StopsAt r p w
   stops-stops-at zero w h = let l = stops-lie r 0 hi n zero w h in absurd (omega arith)
   stops-stops-at (suc p) w h = h
-
-  pub stops-at-le : (p : ℕ) (w : List ℕ) → StopsAt r p w → p ≤ hi
-  stops-at-le zero w h = omega arith
-  stops-at-le (suc p) w h = let l = stops-lie r 0 hi n (suc p) w h in omega arith
 
   -- one event more
   stops-at-next : (p q e : ℕ) (w : List ℕ) → StopsAt r p w → Has (next r p) q → Has (named r e) q → StopsAt r q (w ++ (e ∷ []))
@@ -155,15 +152,5 @@ module _ (r : Pattern) (hi : ℕ) (n : Numbered r 0 hi) where
     pub set-after-holds : (p : ℕ) → (holds (setAfter false r w) p ≡ true) ↔ StopsAt r p w
     set-after-holds p = (set-after-of few w .sound p, set-after-of few w .full p)
 
-    pub set-after-le : (p : ℕ) → holds (setAfter false r w) p ≡ true → p ≤ mostNames
-    set-after-le p h = let l = stops-at-le p w (set-after-of few w .sound p h) in omega arith
-
-    pub set-after-begins : (setAfter false r w ≡ 0) ↔ (Begins r w → ⊥)
-    set-after-begins =
-        (λ z b. begins-set w (setAfter false r w) (set-after-of few w) b z, set-begins w (setAfter false r w) (set-after-of few w))
-
     pub verdict-after-total : TotalMatching r w (verdictOf r (setAfter false r w))
     verdict-after-total = verdict-total w (setAfter false r w) (set-after-of few w)
-
-    pub match-word : (verdictOf r (setAfter false r w) ≡ match) ↔ Word r w
-    match-word = verdict-after-total .matches

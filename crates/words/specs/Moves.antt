@@ -13,7 +13,7 @@ use borrow.Author.Tests.{eqb-true, eqb-false}
 use Rattle.document.specs.Limits.{mostNames}
 use Rattle.document.specs.Patterns.{Pattern}
 use Rattle.document.specs.Positions.{holds, next, nexts, named, move, setFrom, setAfter, startSet}
-use Rattle.words.specs.Sets.{Has, none-has, or-has, has-or-left, has-or-right, and-has, has-and, guarded-has, has-guarded, start-has, has-start}
+use Rattle.words.specs.Sets.{Has, none-has, or-has, has-or-left, has-or-right, and-has, has-and, guarded-has, has-guarded, start-has}
 
 -- q can come next after a number of s below n
 pub record Nexts (r : Pattern) (s n q : ℕ) : Type 0 where
@@ -61,10 +61,6 @@ unfolding move
 has-move anew r s e q m =
     has-or-left (bitAnd (nexts r s (suc mostNames)) (named r e)) (cond anew 1 0) q
     (has-and (nexts r s (suc mostNames)) (named r e) q (has-nexts r s (suc mostNames) q (m .next)) (m .names))
-
-pub has-move-anew : (anew : Bool) (r : Pattern) (s e : ℕ) → anew ≡ true → Has (move anew r s e) 0
-unfolding move
-has-move-anew anew r s e a = has-or-right (bitAnd (nexts r s (suc mostNames)) (named r e)) (cond anew 1 0) 0 (has-guarded anew 1 0 a has-start)
 
 -- ---- the set after a sequence
 module _ (anew : Bool) (r : Pattern) where

@@ -7,8 +7,8 @@ use mathlib.Core.Path.{_≡_, refl, ap, ap₂, _∙_}
 use mathlib.Core.Bool.{Bool, true, false, not}
 use mathlib.Core.List.{List, [], _∷_, _++_}
 use lib.ListN.{length, getD, take}
-use lib.Dec.{T, eqb, ltb}
-use borrow.Author.Tests.{eqb-true, ltb-true, ltb-false}
+use lib.Dec.{T, ltb}
+use borrow.Author.Tests.{ltb-true, ltb-false}
 use Rattle.document.specs.Lists.{consIf, keepIf, equal}
 use Rattle.document.specs.Limits.{mostNames}
 use Rattle.document.specs.Refusals.{Refusal, tooManyNames}
@@ -17,17 +17,7 @@ use Rattle.document.specs.Classes as byte
 use Rattle.document.specs.Patterns.{Pattern}
 use Rattle.document.specs.Tokens.{Token, word, mark, noToken}
 use Rattle.document.specs.Grammar.{Kind, Reads, one-sequence, either, one-repetition, beside, one-atom, starred, plussed, event, empty, grouped, Asks, just-match, just-fail, match-fail, fail-match, Whole, isEventName, namesIn, Fault, oneTooMany}
-use Rattle.words.specs.Sets.{and-left, and-right}
-
-pub equal-same : (a b : List ℕ) → equal a b ≡ true → a ≡ b
-unfolding equal
-equal-same [] [] h = refl
-equal-same [] (y ∷ b) h = cc
-equal-same (x ∷ a) [] h = cc
-equal-same (x ∷ a) (y ∷ b) h =
-    let i : x ≡ y = eqb-true x y (and-left (eqb x y) (equal a b) h) in
-    let j : a ≡ b = equal-same a b (and-right (eqb x y) (equal a b) h) in
-    cc
+use Rattle.basics.specs.Tests.{equal-same}
 
 -- ---- how many event names stand in a list of tokens
 abbrev tally : Bool → ℕ

@@ -5,6 +5,7 @@ use native.Mathlib.Omega.{arith}
 use mathlib.Core.Path.{_≡_, refl, sym, ap, _∙_}
 use mathlib.Core.List.{List, [], _∷_, _++_, append-assoc, append-nil}
 use Rattle.document.specs.Patterns.{Many, none, more, Then}
+use Rattle.document.specs.PatternsLaws.{many-append, many-one}
 
 pub clash : {e : ℕ} {w : List ℕ} → [] ≡ e ∷ w → ⊥
 clash h = let z : _≡_ {A = ℕ} 0 1 = cc in omega arith
@@ -66,12 +67,6 @@ then-end h x y = record {
 }
 
 -- ---- any number of words of P
-pub many-append : (P : List ℕ → Type 0) (u v : List ℕ) → Many P u → Many P v → Many P (u ++ v)
-many-append P u v none n = n
-many-append P u v (more {u = a} {v = b} x m) n = rw append-assoc (more x (many-append P b v m n))
-
-many-one : (P : List ℕ → Type 0) (w : List ℕ) → P w → Many P w
-many-one P w x = let m : Many P (w ++ []) = more x none in rw append-nil at m
 
 -- some words and one more: as some words, and as one and some more
 pub then-many : (P : List ℕ → Type 0) (w : List ℕ) → Then (Many P) P w → Many P w

@@ -12,11 +12,7 @@ use lib.Dec.{eqb, ltb}
 use borrow.Author.Tests.{eq-eqb, ne-eqb, eqb-true, eqb-false, ltb-true, ltb-false}
 use Rattle.document.specs.Lists.{In}
 use Rattle.document.specs.States.{stateOf, find}
-
--- no number stands twice
-abbrev pub Distinct : List ℕ → Type 0
-Distinct [] = Unit {0}
-Distinct (x ∷ l) = (In x l → ⊥) × Distinct l
+use Rattle.basics.specs.Lists.{Distinct, in-append}
 
 -- ---- the place of a number
 pub state-le : (s : ℕ) (found : List ℕ) → stateOf s found ≤ length found
@@ -65,23 +61,10 @@ distinct-state (x ∷ found) (suc k) d h =
 pub distinct-places : (l : List ℕ) (i k : ℕ) → Distinct l → i < length l → k < length l → getD l i 0 ≡ getD l k 0 → i ≡ k
 distinct-places l i k d p q h = sym (distinct-state l i d p) ∙ ap (λ (x : ℕ). stateOf x l) h ∙ distinct-state l k d q
 
--- ---- members of two lists, one after the other
-pub in-append : {A : Type 0} (x : A) (a b : List A) → In x (a ++ b) → In x a ⊎ In x b
-in-append x [] b h = inr h
-in-append x (y ∷ a) b h = ⊎-elim (λ i. inl (inl i)) (λ i. ⊎-elim (λ j. inl (inr j)) inr (in-append x a b i)) h
-
-pub in-append-left : {A : Type 0} (x : A) (a b : List A) → In x a → In x (a ++ b)
-in-append-left x [] b h = absurd h
-in-append-left x (y ∷ a) b h = ⊎-elim inl (λ i. inr (in-append-left x a b i)) h
-
-pub in-append-right : {A : Type 0} (x : A) (a b : List A) → In x b → In x (a ++ b)
-in-append-right x [] b h = h
-in-append-right x (y ∷ a) b h = inr (in-append-right x a b h)
-
 pub distinct-append-one : (l : List ℕ) (s : ℕ) → Distinct l → (In s l → ⊥) → Distinct (l ++ (s ∷ []))
 distinct-append-one [] s d h = (λ i. i, tt)
 distinct-append-one (x ∷ l) s d h = (
-  λ i. ⊎-elim (d .0) (⊎-elim (λ (j : x ≡ s). h (inl (sym j))) (λ j. j)) (in-append x l (s ∷ []) i),
+  λ i. ⊎-elim (d .0) (⊎-elim (λ (j : x ≡ s). h (inl (sym j))) (λ j. j)) (in-append x l (s ∷ []) .0 i),
   distinct-append-one l s (d .1) (λ i. h (inr i)),
 )
 
@@ -106,7 +89,7 @@ pub extends-at : (a b : List ℕ) → Extends a b → (k : ℕ) → k < length a
 extends-at a b x k h = ap (λ (l : List ℕ). getD l k 0) (x .is) ∙ List·getD-append a (x .added) 0 k h
 
 pub extends-in : (a b : List ℕ) → Extends a b → (x : ℕ) → In x a → In x b
-extends-in a b e x h = rw (e .is) (in-append-left x a (e .added) h)
+extends-in a b e x h = rw (e .is) (in-append x a (e .added) .1 (inl h))
 
 -- "The states are the distinct sets": a set joins those found unless it is one of them
 pub record Finds (s : ℕ) (found new : List ℕ) : Type 0 where
@@ -128,8 +111,8 @@ find-finds s found d = go (ltb (stateOf s found) (length found)) refl
     new h = record {
       extends = record { added = s ∷ []; is = refl };
       distinct = distinct-append-one found s d h;
-      has = in-append-right s found (s ∷ []) (inl refl);
-      only = λ x i. ⊎-elim inl (⊎-elim inr (λ j. absurd j)) (in-append x found (s ∷ []) i);
+      has = in-append s found (s ∷ []) .1 (inr (inl refl));
+      only = λ x i. ⊎-elim inl (⊎-elim inr (λ j. absurd j)) (in-append x found (s ∷ []) .0 i);
     }
 
     go : (t : Bool) → ltb (stateOf s found) (length found) ≡ t → Finds s found (elim t [ true ↦ found | false ↦ found ++ (s ∷ []) ])

@@ -1,50 +1,17 @@
--- Document 01, "Numbers of refusal", 11: the test that a property table is in range, as the facts that it tests. With it, what
--- lists made by a rule hold, and tests of all numbers below another.
+-- Document 01, "Numbers of refusal", 11: the test that a property table is in range, as the facts that it tests. With it,
+-- tests of all numbers below another.
 -- Assumes nothing.
-use Prim.Native.Nat.{ℕ, zero, suc, _+_, _^_, _<_, _≤_}
+use Prim.Native.Nat.{ℕ, zero, suc, _^_, _<_, _≤_}
 use native.Mathlib.Omega.{arith}
-use mathlib.Core.Path.{_≡_, refl, ap, ap₂}
+use mathlib.Core.Path.{_≡_, refl}
 use mathlib.Core.Bool.{Bool, true, false, _&&_}
-use mathlib.Core.List.{[], _∷_, _++_}
-use lib.ListN.{length, getD}
 use lib.Dec.{leb, ltb, eqb}
 use borrow.Author.Tests.{le-leb, lt-ltb, leb-true, ltb-true, eqb-true, eqb-false}
-use Rattle.document.specs.Lists.{everyBelow, tabulate}
+use Rattle.document.specs.Lists.{everyBelow}
 use Rattle.document.specs.Limits.{width, mostEvents, mostStates}
 use Rattle.document.specs.Property.{Property, setOf, nextState, verdict, inRange}
-use Rattle.words.specs.Sets.{and-both, and-left, and-right}
-
--- ---- lists made by a rule
-pub tabulate-at : {A : Type 0} (n : ℕ) (f : ℕ → A) (k : ℕ) (z : A) → k < n → getD (tabulate n f) k z ≡ f k
-unfolding tabulate
-tabulate-at zero f k z l = absurd (omega arith)
-tabulate-at (suc n) f zero z l = refl
-tabulate-at (suc n) f (suc k) z l = tabulate-at n (λ j. f (suc j)) k z (omega arith)
-
-pub tabulate-length : {A : Type 0} (n : ℕ) (f : ℕ → A) → length (tabulate n f) ≡ n
-unfolding tabulate
-tabulate-length zero f = refl
-tabulate-length (suc n) f = ap suc (tabulate-length n (λ j. f (suc j)))
-
-pub tabulate-past : {A : Type 0} (n : ℕ) (f : ℕ → A) (k : ℕ) (z : A) → n ≤ k → getD (tabulate n f) k z ≡ z
-unfolding tabulate
-tabulate-past zero f k z l = refl
-tabulate-past (suc n) f zero z l = absurd (omega arith)
-tabulate-past (suc n) f (suc k) z l = tabulate-past n (λ j. f (suc j)) k z (omega arith)
-
--- two rules that agree below n make the same list
-pub tabulate-same : {A : Type 0} (n : ℕ) (f g : ℕ → A) → ((k : ℕ) → k < n → f k ≡ g k) → tabulate n f ≡ tabulate n g
-unfolding tabulate
-tabulate-same zero f g h = refl
-tabulate-same (suc n) f g h = ap₂ _∷_ (h 0 (omega arith)) (tabulate-same n (λ j. f (suc j)) (λ j. g (suc j)) (λ j l. h (suc j) (omega arith)))
-
--- one more stands at the end
-pub tabulate-next : {A : Type 0} (n : ℕ) (f : ℕ → A) → tabulate (n + 1) f ≡ tabulate n f ++ (f n ∷ [])
-unfolding tabulate
-tabulate-next zero f = refl
-tabulate-next (suc n) f =
-    let z : suc n + 1 ≡ suc (n + 1) = omega arith in
-    rw z (ap (λ l. f 0 ∷ l) (tabulate-next n (λ j. f (suc j))))
+use Rattle.basics.specs.Tests.{and-left, and-right}
+use Rattle.words.specs.Sets.{and-both}
 
 -- ---- tests of all numbers below another
 pub every-below : (n : ℕ) (p : ℕ → Bool) → ((k : ℕ) → k < n → p k ≡ true) → everyBelow n p ≡ true

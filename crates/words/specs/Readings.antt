@@ -9,8 +9,9 @@ use mathlib.Core.Bool.{true}
 use mathlib.Core.List.{List, [], _∷_, _++_, append-assoc, append-nil}
 use Rattle.document.specs.Patterns.{Pattern, epsilon, name, alternative, sequence, star, plus, Many, none, more, Word, Begins}
 use Rattle.document.specs.Positions.{Stops, nullable, lasts}
+use Rattle.basics.specs.Tests.{and-left, and-right}
 use Rattle.words.specs.Parts.{clash, left-nil, Parted, within, beyond, parted, then-with, then-end, then-alone, then-before, then-many, then-turned}
-use Rattle.words.specs.Sets.{Has, has-one, has-or-left, has-or-right, has-with-left, or-cases, or-left, or-right, and-both, and-left, and-right}
+use Rattle.words.specs.Sets.{Has, has-one, has-or-left, has-or-right, has-with-left, or-cases, or-left, or-right, and-both}
 
 -- ---- the empty word
 pub nullable-word : (r : Pattern) → nullable r ≡ true → Word r []

@@ -21,11 +21,12 @@ use Rattle.document.specs.Positions.{holds, nullable, lasts, setAfter, verdictO
 use Rattle.document.specs.States.{Found}
 use Rattle.document.specs.Property.{Property, setOf, nextState, verdict, inRange, stateFrom, stateAfter}
 use Rattle.document.specs.Translate.{propertyOf}
-use Rattle.words.specs.Range.{tabulate-at, tabulate-length, range-in-range}
+use Rattle.basics.specs.Lists.{tabulate-at, length-tabulate}
+use Rattle.words.specs.Range.{range-in-range}
 use Rattle.words.specs.Closed.{entryOf, Through}
 use Rattle.words.specs.Walks.{walk, walk-same, states-some, walk-from, walk-set}
 
-map-at : (f : ℕ → ℕ) (l : List ℕ) (k : ℕ) → k < length l → getD (list.map f l) k 0 ≡ f (getD l k 0)
+pub map-at : (f : ℕ → ℕ) (l : List ℕ) (k : ℕ) → k < length l → getD (list.map f l) k 0 ≡ f (getD l k 0)
 map-at f [] k h = absurd (omega arith)
 map-at f (x ∷ l) zero h = refl
 map-at f (x ∷ l) (suc k) h = map-at f l k (omega arith)
@@ -80,7 +81,7 @@ module _ (anew : Bool) (d : Declared) (t : Parsed) (g : Found) (fits : Fits d)
       let n : ℕ = length (d .events) in
       let l : List ℕ = tabulate mostEvents (λ e. getD (d .sets) e 0) in
       let f : n ≤ mostEvents = fits .fewEvents in
-      let z : length (take n l) ≡ n = length-take-le n l (rw tabulate-length f) in
+      let z : length (take n l) ≡ n = length-take-le n l (rw length-tabulate f) in
       ext-getD 0 (take n l) (d .sets) (z ∙ sym (fits .setsLong)) (λ i h.
       getD-take n l i 0 (omega arith) ∙ tabulate-at mostEvents (λ e. getD (d .sets) e 0) i 0 (omega arith))
 

@@ -1,5 +1,5 @@
--- Document 01, "The declarations" and "Numbers of refusal": what an answer that is taken says of the tests before it, and what
--- declarations that are taken have: 1 to 16 events, at most 4 parameters, and for each event a set of those parameters.
+-- Document 01, "The declarations": what declarations that are taken have: 1 to 16 events, at most 4 parameters, and for each
+-- event a set of those parameters.
 -- Assumes nothing.
 use Prim.Native.Nat.{ℕ, suc, _+_, _^_, _<_, _≤_}
 use native.Mathlib.Omega.{arith}
@@ -14,30 +14,12 @@ use borrow.Author.Tests.{leb-false, ltb-false, eqb-true, eqb-false, not-false}
 use Rattle.document.specs.Lists.{equal, every, among, repeated}
 use Rattle.document.specs.Limits.{width, textBytes, mostEvents}
 use Rattle.document.specs.Classes.{oneByte, eventWord, epsilonWord}
-use Rattle.document.specs.Refusals.{Refusal, textTooLong, badShape, badName, nameTwice, overLimits, Answer, taken, refused, refuseIf, andThen}
+use Rattle.document.specs.Refusals.{textTooLong, badShape, badName, nameTwice, overLimits, Answer, taken, andThen}
 use Rattle.document.specs.Rows.{firstRow, afterRow, rows, stray, fields}
 use Rattle.document.specs.Declarations.{Declared, isName, isMark, setFrom, headerRow, eventRow, eventRows, noEvents, declarations}
+use Rattle.basics.specs.Answers.{taken-one, past-test, past-call}
+use Rattle.basics.specs.Tests.{neither}
 use Rattle.words.specs.Table.{Fits}
-
--- ---- answers
-pub refused-taken : {A : Type 0} {x : A} {q : Refusal} {at : ℕ} → refused q at ≡ taken x → ⊥
-refused-taken h = let z : _≡_ {A = ℕ} 0 1 = cc in omega arith
-
-pub taken-injective : {A : Type 0} {x y : A} → taken x ≡ taken y → x ≡ y
-taken-injective h = cc
-
--- an answer that is taken passed the test
-pub refuse-if-taken : {A : Type 0} (t : Bool) (q : Refusal) (a : Answer A) (x : A) → refuseIf t q a ≡ taken x → (t ≡ false) × (a ≡ taken x)
-refuse-if-taken true q a x h = absurd (refused-taken h)
-refuse-if-taken false q a x h = (refl, h)
-
-pub and-then-taken : {A B : Type 0} (a : Answer A) (f : A → Answer B) (y : B) → andThen a f ≡ taken y → (x : A) × (a ≡ taken x) × (f x ≡ taken y)
-and-then-taken (taken x) f y h = (x, refl, h)
-and-then-taken (refused q at) f y h = absurd (refused-taken h)
-
-or-false : (a b : Bool) → a || b ≡ false → (a ≡ false) × (b ≡ false)
-or-false true b h = (h, cc)
-or-false false b h = (refl, h)
 
 -- ---- a set that marks say
 set-from-lt : (k : ℕ) (marks : List (List ℕ)) → setFrom k marks + 2 ^ k ≤ 2 ^ (k + length marks)
@@ -83,17 +65,17 @@ unfolding eventRow
 event-row-fits names d row d′ x h =
     let name : List ℕ = getD (fields row) 0 [] in
     let marks : List (List ℕ) = drop 1 (fields row) in
-    let one = refuse-if-taken (leb mostEvents (length (d .events))) overLimits _ d′ h in
-    let two = refuse-if-taken (stray row || not (eqb (length marks) (length (d .parameters))) || not (every isMark marks)) badShape _ d′ (one .1) in
-    let three = refuse-if-taken (not (isName name) || equal name epsilonWord) badName _ d′ (two .1) in
-    let four = refuse-if-taken (among name (d .events)) nameTwice (taken (withEvent d name (setFrom 0 marks))) d′ (three .1) in
+    let one = past-test (leb mostEvents (length (d .events))) overLimits _ d′ h in
+    let two = past-test (stray row || not (eqb (length marks) (length (d .parameters))) || not (every isMark marks)) badShape _ d′ (one .1) in
+    let three = past-test (not (isName name) || equal name epsilonWord) badName _ d′ (two .1) in
+    let four = past-test (among name (d .events)) nameTwice (taken (withEvent d name (setFrom 0 marks))) d′ (three .1) in
     let few : length (d .events) < mostEvents = leb-false mostEvents (length (d .events)) (one .0) in
-    let shape = or-false (stray row || not (eqb (length marks) (length (d .parameters)))) (not (every isMark marks)) (two .0) .0 in
-    let counted = or-false (stray row) (not (eqb (length marks) (length (d .parameters)))) shape .1 in
+    let shape = neither (stray row || not (eqb (length marks) (length (d .parameters)))) (not (every isMark marks)) (two .0) .0 in
+    let counted = neither (stray row) (not (eqb (length marks) (length (d .parameters)))) shape .1 in
     let many : length marks ≡ length (d .parameters) = eqb-true _ _ (not-false (eqb (length marks) (length (d .parameters))) counted) in
     let z : 0 + length marks ≡ length marks = omega arith in
     let small : setFrom 0 marks + 1 ≤ 2 ^ length (d .parameters) = rw (z, many) at (set-from-lt 0 marks) in
-    subst (RowsFit names) (taken-injective (four .1)) (with-event-fits names d name (setFrom 0 marks) x few (omega arith))
+    subst (RowsFit names) (taken-one (four .1)) (with-event-fits names d name (setFrom 0 marks) x few (omega arith))
 
 event-rows-fit : (names : List (List ℕ)) (more : List (List ℕ)) (a : Answer Declared) (d : Declared)
     → ((x : Declared) → a ≡ taken x → RowsFit names x) → eventRows a more ≡ taken d → RowsFit names d
@@ -101,18 +83,18 @@ unfolding eventRows
 event-rows-fit names [] a d x h = x d h
 event-rows-fit names (row ∷ more) a d x h =
     event-rows-fit names more (andThen a (λ y. eventRow y row)) d
-    (λ y i. let g = and-then-taken a (λ z. eventRow z row) y i in event-row-fits names (g .0) row y (x (g .0) (g .1)) (g .2)) h
+    (λ y i. let g = past-call a (λ z. eventRow z row) y i in event-row-fits names (g .0) row y (x (g .0) (g .1)) (g .2)) h
 
 header-row-few : (row : List ℕ) (names : List (List ℕ)) → headerRow row ≡ taken names → length names ≤ width
 unfolding headerRow
 header-row-few row names h =
     let found : List (List ℕ) = drop 1 (fields row) in
-    let one = refuse-if-taken (ltb width (length found)) overLimits _ names h in
-    let two = refuse-if-taken (stray row || not (equal (getD (fields row) 0 []) eventWord)) badShape _ names (one .1) in
-    let three = refuse-if-taken (not (every isName found)) badName _ names (two .1) in
-    let four = refuse-if-taken (repeated found) nameTwice (taken found) names (three .1) in
+    let one = past-test (ltb width (length found)) overLimits _ names h in
+    let two = past-test (stray row || not (equal (getD (fields row) 0 []) eventWord)) badShape _ names (one .1) in
+    let three = past-test (not (every isName found)) badName _ names (two .1) in
+    let four = past-test (repeated found) nameTwice (taken found) names (three .1) in
     let l : length found ≤ width = ltb-false width (length found) (one .0) in
-    rw (taken-injective (four .1)) at l
+    rw (taken-one (four .1)) at l
 
 no-events-fit : (names : List (List ℕ)) → RowsFit names (noEvents names)
 unfolding noEvents
@@ -121,16 +103,16 @@ no-events-fit names = record { parameters = refl; fewEvents = omega arith; setsL
 pub declarations-fit : (text : List ℕ) (d : Declared) → declarations text ≡ taken d → Fits d
 unfolding declarations
 declarations-fit text d h =
-    let one = refuse-if-taken (ltb textBytes (length text)) textTooLong _ d h in
-    let two = and-then-taken (headerRow (firstRow text)) _ d (one .1) in
+    let one = past-test (ltb textBytes (length text)) textTooLong _ d h in
+    let two = past-call (headerRow (firstRow text)) _ d (one .1) in
     let names = two .0 in
-    let three = and-then-taken (eventRows (taken (noEvents names)) (rows (afterRow text))) _ d (two .2) in
-    let four = refuse-if-taken (eqb (length (three .0 .events)) 0) overLimits (taken (three .0)) d (three .2) in
+    let three = past-call (eventRows (taken (noEvents names)) (rows (afterRow text))) _ d (two .2) in
+    let four = past-test (eqb (length (three .0 .events)) 0) overLimits (taken (three .0)) d (three .2) in
     let some : (length (three .0 .events) ≡ 0 → ⊥) = eqb-false (length (three .0 .events)) 0 (four .0) in
-    let none : ((y : Declared) → taken (noEvents names) ≡ taken y → RowsFit names y) = λ y i. subst (RowsFit names) (taken-injective i) (no-events-fit names) in
+    let none : ((y : Declared) → taken (noEvents names) ≡ taken y → RowsFit names y) = λ y i. subst (RowsFit names) (taken-one i) (no-events-fit names) in
     let x : RowsFit names (three .0) = event-rows-fit names (rows (afterRow text)) (taken (noEvents names)) (three .0) none (three .1) in
     let few = header-row-few (firstRow text) names (two .1) in
-    subst Fits (taken-injective (four .1)) (record {
+    subst Fits (taken-one (four .1)) (record {
       someEvent = omega arith;
       fewEvents = x .fewEvents;
       fewParameters = rw (x .parameters) few;

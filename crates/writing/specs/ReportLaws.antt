@@ -16,23 +16,25 @@ use Rattle.document.specs.Positions.{holds}
 use Rattle.document.specs.Combinations.{precedes, join}
 use Rattle.document.specs.OneEvent.{Kept, insertKept, inOrder, moves, movedFrom, moved, reportsAfter}
 use Rattle.document.specs.Tables.{numbersAt, seenRows}
-use Rattle.slices.specs.TestsLaws.{either}
+use Rattle.basics.specs.Tests.{decided}
 use Rattle.slices.specs.ListsLaws.{map-append}
 use Rattle.slices.specs.OrderLaws.{Ascends, combinations, insertKept-after, insertKept-here}
-use Rattle.tables.specs.Tables.{rowAt, keptFrom, Enterable, Entered}
+use Rattle.slices.specs.TablesLaws.{keptAt}
+use Rattle.slices.specs.MovesLaws.{reportsAfter-ascends}
+use Rattle.tables.specs.Tables.{keptFrom, Enterable, Entered}
 use Rattle.tables.specs.OrderLaws.{ascends-front}
 use Rattle.tables.specs.TablesLaws.{length-keptFrom, kept-more, kept-two}
 use Rattle.moves.specs.Steps.{stepOf, stateIn, movesAt}
 use Rattle.moves.specs.ReadyLaws.{moves-at, ready-row}
 use Rattle.foreseen.specs.CountLaws.{report-count}
 use Rattle.writing.specs.Writing.{reportedBy, reportOf, ReportReady, ReportedRow, Reportable, Reported}
-use Rattle.writing.specs.ReportsLaws.{reports-more, reports-ascends}
+use Rattle.writing.specs.ReportsLaws.{reports-more}
 
 -- reports go where their combinations go
 report-insert : (verdicts : List ℕ) (r : Kept) (l : List Kept) → list.map (reportOf verdicts) (insertKept r l) ≡ insertKept (reportOf verdicts r) (list.map (reportOf verdicts) l)
 unfolding insertKept reportOf
 report-insert verdicts r [] = refl
-report-insert verdicts r (x ∷ l) = elim (either (precedes (x .combination) (r .combination))) [
+report-insert verdicts r (x ∷ l) = elim (decided (precedes (x .combination) (r .combination))) [
   | inl h ↦ ap (list.map (reportOf verdicts)) (insertKept-after r x l h) ∙ ap (λ (y : List Kept). reportOf verdicts x ∷ y) (report-insert verdicts r l)
       ∙ sym (insertKept-after (reportOf verdicts r) (reportOf verdicts x) (list.map (reportOf verdicts) l) h)
   | inr h ↦ ap (list.map (reportOf verdicts)) (insertKept-here r x l h) ∙ sym (insertKept-here (reportOf verdicts r) (reportOf verdicts x) (list.map (reportOf verdicts) l) h)
@@ -49,7 +51,7 @@ module _ (next verdicts : List ℕ) (states asks e n i from count : ℕ) (b seen
     (u : ReportReady next states asks e n i from count b seen kept t fresh) (k : List ℕ) (f : Bool)
     (qk : k ≡ numbersAt width kept (i * keptStride)) (qf : f ≡ movesAt b (seenRows n seen) k) where
   abbrev row : Kept
-  row = rowAt kept (i * keptStride)
+  row = keptAt width kept (i * keptStride)
 
   abbrev S : List (List ℕ)
   S = seenRows n seen
@@ -140,8 +142,8 @@ module _ (next verdicts : List ℕ) (states asks e n m i from count : ℕ) (b se
       ascends-front (combinations (keptFrom j kept 0)) (combinations (keptFrom (m - j) kept (j * keptStride)))
       (subst (λ (l : List (List ℕ)). Ascends l) (ap combinations (kept-two j m kept g) ∙ map-append (λ (k : Kept). k .combination) (keptFrom j kept 0) (keptFrom (m - j) kept (j * keptStride))) (u .able .ready .rows .order))
 
-  more-row : keptFrom (i + 1) kept 0 ≡ keptFrom i kept 0 ++ (rowAt kept (i * keptStride) ∷ [])
-  more-row = kept-more i kept 0 ∙ ap (λ (x : ℕ). keptFrom i kept 0 ++ (rowAt kept x ∷ [])) (zero-add (i * keptStride))
+  more-row : keptFrom (i + 1) kept 0 ≡ keptFrom i kept 0 ++ (keptAt width kept (i * keptStride) ∷ [])
+  more-row = kept-more i kept 0 ∙ ap (λ (x : ℕ). keptFrom i kept 0 ++ (keptAt width kept x ∷ [])) (zero-add (i * keptStride))
 
   count-is : count ≡ length (reports (keptFrom i kept 0))
   count-is = sym (length-keptFrom count t from) ∙ ap length (u .rows) ∙ length-map (reports (keptFrom i kept 0)) (reportOf verdicts)
@@ -154,14 +156,14 @@ module _ (next verdicts : List ℕ) (states asks e n m i from count : ℕ) (b se
     row = ready-row next states e n m b seen kept fresh i (u .able .ready) h;
     inside = let c = count-is in let f = fits i (omega arith) in let r = u .able .room in let s = u .same in omega arith;
     order = subst (λ (l : List (List ℕ)). Ascends l) (sym (ap combinations (u .rows) ∙ report-combinations verdicts (reports (keptFrom i kept 0))))
-        (reports-ascends (stepOf next) e b R ob (stateIn asks) (keptFrom i kept 0) (front i (omega arith)));
+        (reportsAfter-ascends width (stepOf next) e b R (keptFrom i kept 0) (front i (omega arith)) (stateIn asks));
     room = λ g.
         let c = count-is in
         let f = fits (i + 1) (omega arith) in
         let r = u .able .room in
         let s = u .same in
         let l : length (reports (keptFrom (i + 1) kept 0)) ≡ length (reports (keptFrom i kept 0)) + 1 =
-        ap (λ (x : List Kept). length (reports x)) more-row ∙ report-count (stepOf next) e b R ob (stateIn asks) (keptFrom i kept 0) (rowAt kept (i * keptStride)) ∙ rw g refl in
+        ap (λ (x : List Kept). length (reports x)) more-row ∙ report-count (stepOf next) e b R ob (stateIn asks) (keptFrom i kept 0) (keptAt width kept (i * keptStride)) ∙ rw g refl in
         omega arith;
   }
 
@@ -172,7 +174,7 @@ module _ (next verdicts : List ℕ) (states asks e n m i from count : ℕ) (b se
     same = l ∙ u .same;
     within = omega arith;
     rows = v .rows (reports (keptFrom i kept 0)) (u .rows)
-        ∙ ap (list.map (reportOf verdicts)) (sym (ap reports more-row ∙ reports-more (stepOf next) e b R ob (stateIn asks) (keptFrom i kept 0) (rowAt kept (i * keptStride))
+        ∙ ap (list.map (reportOf verdicts)) (sym (ap reports more-row ∙ reports-more (stepOf next) e b R ob (stateIn asks) (keptFrom i kept 0) (keptAt width kept (i * keptStride))
         (subst (λ (x : List Kept). Ascends (combinations x)) more-row (front (i + 1) (omega arith)))));
     low = λ k g. v .low k g ∙ u .low k g;
     high = λ k g. v .high k g ∙ u .high k (let x = v .more in omega arith);

@@ -10,11 +10,14 @@ use lib.ListN.{length}
 use Rattle.document.specs.Lists.{consIf, keepIf}
 use Rattle.document.specs.Limits.{width}
 use Rattle.document.specs.OneEvent.{Kept, insertKept, inOrder, moves, movedFrom, moved, reportsAfter}
-use Rattle.slices.specs.TestsLaws.{so, true-of, either, and-of}
-use Rattle.slices.specs.ListsLaws.{Distinct, keepIf-distinct}
-use Rattle.slices.specs.OrderLaws.{Ascends, combinations, inOrder-ascends}
-use Rattle.tables.specs.OrderLaws.{keepIf-append, inOrder-more}
-use Rattle.moves.specs.MovesLaws.{moved-distinct, moved-more}
+use Rattle.basics.specs.Tests.{decided}
+use Rattle.basics.specs.Lists.{Distinct}
+use Rattle.slices.specs.TestsLaws.{so, true-of, and-of}
+use Rattle.slices.specs.ListsLaws.{keepIf-distinct, keepIf-append}
+use Rattle.slices.specs.OrderLaws.{Ascends, combinations}
+use Rattle.slices.specs.MovesLaws.{moved-distinct}
+use Rattle.tables.specs.OrderLaws.{inOrder-more}
+use Rattle.moves.specs.MovesLaws.{moved-more}
 use Rattle.writing.specs.Writing.{reportedBy}
 
 module _ (step : ℕ → ℕ → ℕ) (e : ℕ) (b : List ℕ) (seen : List (List ℕ)) (ob : length b ≡ width) where
@@ -32,7 +35,7 @@ module _ (step : ℕ → ℕ → ℕ) (e : ℕ) (b : List ℕ) (seen : List (Lis
     unfolding reportsAfter keepIf
     reports-out l k h =
         rw (moved-more step e b seen ob l k, keepIf-append keeps (moved width step e b seen l) (consIf (may k) (to k) []))
-        (elim (either (may k)) [
+        (elim (decided (may k)) [
           | inl m ↦ let t : keeps (to k) ≡ false = rw m at h in rw (m, t, list.append-nil)
           | inr m ↦ rw (m, list.append-nil)
         ])
@@ -46,12 +49,8 @@ module _ (step : ℕ → ℕ → ℕ) (e : ℕ) (b : List ℕ) (seen : List (Lis
         let q : keepIf keeps (moved width step e b seen (l ++ (k ∷ []))) ≡ keepIf keeps (moved width step e b seen l) ++ (to k ∷ []) =
         rw (moved-more step e b seen ob l k, keepIf-append keeps (moved width step e b seen l) (consIf (may k) (to k) []), m, t) in
         ap inOrder q ∙ inOrder-more (keepIf keeps (moved width step e b seen l)) (to k)
-        (subst (λ (z : List Kept). Distinct (combinations z)) q (keepIf-distinct (λ (r : Kept). r .combination) keeps (moved width step e b seen (l ++ (k ∷ []))) (moved-distinct step e b seen ob (l ++ (k ∷ [])) a)))
+        (subst (λ (z : List Kept). Distinct (combinations z)) q (keepIf-distinct (λ (r : Kept). r .combination) keeps (moved width step e b seen (l ++ (k ∷ []))) (moved-distinct width step e b seen (l ++ (k ∷ [])) a)))
 
     pub reports-more : (l : List Kept) (k : Kept) → Ascends (combinations (l ++ (k ∷ []))) → reports (l ++ (k ∷ [])) ≡ reportedBy step e b seen keeps k (reports l)
     unfolding reportedBy
-    reports-more l k a = elim (either (may k && keeps (to k))) [ inl h ↦ rw h (reports-in l k a h) | inr h ↦ rw h (reports-out l k h) ]
-
-    pub reports-ascends : (l : List Kept) → Ascends (combinations l) → Ascends (combinations (reports l))
-    unfolding reportsAfter
-    reports-ascends l a = inOrder-ascends (keepIf keeps (moved width step e b seen l)) (keepIf-distinct (λ (r : Kept). r .combination) keeps (moved width step e b seen l) (moved-distinct step e b seen ob l a))
+    reports-more l k a = elim (decided (may k && keeps (to k))) [ inl h ↦ rw h (reports-in l k a h) | inr h ↦ rw h (reports-out l k h) ]

@@ -12,7 +12,8 @@ use Rattle.document.specs.OneEvent.{Kept, insertKept, moves, movedFrom, see, ke
 use Rattle.document.specs.Session.{Outcome, Session, Happened, sessionWith}
 use Rattle.document.specs.Tables.{seenRows, keptRows, seenRoom, reportRoom, seenTable, keptTable}
 use Rattle.slices.specs.OrderLaws.{Ascends, combinations}
-use Rattle.tables.specs.Tables.{rowAt, keptFrom}
+use Rattle.slices.specs.TablesLaws.{keptAt}
+use Rattle.tables.specs.Tables.{keptFrom}
 use Rattle.moves.specs.Steps.{stepOf, stateIn, outcomeBy}
 use Rattle.moves.specs.Ready.{Ready, RowReady}
 use Rattle.foreseen.specs.declared.Foreseen.{Foreseen}
@@ -47,12 +48,12 @@ pub record ReportReady (next : List ℕ) (states asks e n i from count : ℕ) (b
   pub row : RowReady next states e n i b seen kept fresh
   pub inside : from + count * keptStride ≤ length t
   pub order : Ascends (combinations (keptFrom count t from))
-  pub room : (moves width (stepOf next) e b (seenRows n seen) (rowAt kept (i * keptStride))
-      && stateIn asks (movedFrom width (stepOf next) e b (seenRows n seen) (rowAt kept (i * keptStride)))) ≡ true → from + (count + 1) * keptStride ≤ length t
+  pub room : (moves width (stepOf next) e b (seenRows n seen) (keptAt width kept (i * keptStride))
+      && stateIn asks (movedFrom width (stepOf next) e b (seenRows n seen) (keptAt width kept (i * keptStride)))) ≡ true → from + (count + 1) * keptStride ≤ length t
 
 pub record ReportedRow (next verdicts : List ℕ) (asks e n i from count : ℕ) (b seen kept t t′ : List ℕ) (r : ℕ) : Type 0 where
   pub rows : (l : List Kept) → keptFrom count t from ≡ list.map (reportOf verdicts) l
-      → keptFrom r t′ from ≡ list.map (reportOf verdicts) (reportedBy (stepOf next) e b (seenRows n seen) (stateIn asks) (rowAt kept (i * keptStride)) l)
+      → keptFrom r t′ from ≡ list.map (reportOf verdicts) (reportedBy (stepOf next) e b (seenRows n seen) (stateIn asks) (keptAt width kept (i * keptStride)) l)
   pub low : (k : ℕ) → k < from → getD t′ k 0 ≡ getD t k 0
   pub high : (k : ℕ) → from + r * keptStride ≤ k → getD t′ k 0 ≡ getD t k 0
   pub more : count ≤ r

@@ -1,6 +1,6 @@
 -- `advance::stay` meets its contract: the row stands there already, or it is written there.
 -- Assumes nothing.
-use Rattle.inplace.specs.WalkLaws.{stays-put}
+use Rattle.combos.specs.WritesLaws.{stays-put}
 use Rattle.advance.specs.RowLaws.{row-stays}
 use borrow.Author.Needs.{needs}
 use Rattle.advance.proofs.stay.Statement.{statement}

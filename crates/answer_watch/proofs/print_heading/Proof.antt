@@ -1,7 +1,7 @@
 -- `answer_watch::print_heading` is safe: the declarations are taken, and the heading fits.
 -- Assumes nothing.
 use borrow.Author.Needs.{needs}
-use Rattle.answer_watch.specs.Taken.{taken-declared}
+use Rattle.readings.specs.ReadingsLaws.{taken-declared}
 use Rattle.answer_watch.proofs.print_heading.Statement.{statement}
 use Rattle.answer_watch.proofs.print_heading.Tie as tie
 

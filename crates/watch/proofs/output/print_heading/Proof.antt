@@ -1,7 +1,7 @@
 -- `watch::output::print_heading` is safe: the declarations are taken, and the heading fits.
 -- Assumes nothing.
 use borrow.Author.Needs.{needs}
-use Rattle.watch.specs.Places.{taken-declared}
+use Rattle.readings.specs.ReadingsLaws.{taken-declared}
 use Rattle.watch.proofs.output.print_heading.Statement.{statement}
 use Rattle.watch.proofs.output.print_heading.Tie as tie
 

@@ -1,0 +1,4 @@
+pub mod Tests
+pub mod Lists
+pub mod Sets
+pub mod Answers
