@@ -29,10 +29,11 @@ use Rattle.moves.specs.Steps.{stepOf, stateIn}
 use Rattle.keeping.specs.Keeping.{sifted, SettleReady, SettledRow}
 use Rattle.keeping.specs.SiftLaws.{settle-stays, settle-drops, settle-moves, sifting-ready, sifting-turn}
 use Rattle.writing.specs.Writing.{reportOf}
-use Rattle.inplace.specs.InPlace.{movedOn, told, Movable}
-use Rattle.inplace.specs.SpanLaws.{rising-of}
+use Rattle.spans.specs.Spans.{Movable}
+use Rattle.inplace.specs.InPlace.{movedOn, told}
+use Rattle.spans.specs.SpanLaws.{rising-of}
 use Rattle.inplace.specs.ToldLaws.{told-append, told-none, sifted-append, sifted-none}
-use Rattle.inplace.specs.AgreeLaws.{apart, rows-in}
+use Rattle.spans.specs.AgreeLaws.{apart, rows-in}
 use Rattle.advance.specs.Advancing.{ToldRow, MovedRow, Advanceable, Passing, Passable, Passes, PassesOn}
 
 pub movable-of : (next : List ℕ) (states e m from : ℕ) (b kept reports : List ℕ) → Advanceable next states e m from b kept reports → Movable next states e m b kept

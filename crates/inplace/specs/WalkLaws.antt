@@ -21,9 +21,10 @@ use Rattle.tables.specs.TablesLaws.{kept-more, row-move}
 use Rattle.moves.specs.Steps.{stepOf, stateIn}
 use Rattle.keeping.specs.Keeping.{SettleReady}
 use Rattle.keeping.specs.SiftLaws.{settle-stays, settle-moves, sifting-ready, sifting-turn}
-use Rattle.inplace.specs.InPlace.{movedOn, told, Agree, Spans, LastBound, NextFound, Agrees, Movable, Walking, WalksTo, MovedInPlace}
+use Rattle.spans.specs.Spans.{Agree, Spans, LastBound, NextFound, Agrees, Movable}
+use Rattle.inplace.specs.InPlace.{movedOn, told, Walking, WalksTo, MovedInPlace}
 use Rattle.inplace.specs.ToldLaws.{told-append, told-none, sifted-none}
-use Rattle.inplace.specs.AgreeLaws.{differs, agree-bound, rows-in}
+use Rattle.spans.specs.AgreeLaws.{differs, agree-bound, rows-in}
 
 -- fewer rows lie within the table too
 pub rows-inside : (m end n : ℕ) → end ≤ m → m * keptStride ≤ n → end * keptStride ≤ n

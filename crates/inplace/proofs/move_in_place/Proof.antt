@@ -1,6 +1,6 @@
 -- `inplace::move_in_place` meets its contract: where the rows stand that may include the binding, then the walk over them.
 -- Assumes nothing.
-use Rattle.inplace.specs.SpanLaws.{rising-of, spans-of}
+use Rattle.spans.specs.SpanLaws.{rising-of, spans-of}
 use Rattle.inplace.specs.WalkLaws.{moved-in-place}
 use borrow.Author.Needs.{needs}
 use Rattle.inplace.proofs.move_in_place.Statement.{statement}

@@ -1,9 +1,9 @@
--- `inplace::end_place` meets its contract: after all rows, or before the first that begins with a greater number.
+-- `spans::end_place` meets its contract: after all rows, or before the first that begins with a greater number.
 -- Assumes nothing.
-use Rattle.inplace.specs.SpanLaws.{ends-unbound, ends-of}
+use Rattle.spans.specs.SpanLaws.{ends-unbound, ends-of}
 use borrow.Author.Needs.{needs}
-use Rattle.inplace.proofs.end_place.Statement.{statement}
-use Rattle.inplace.proofs.end_place.Tie as tie
+use Rattle.spans.proofs.end_place.Statement.{statement}
+use Rattle.spans.proofs.end_place.Tie as tie
 
 returns : tie.Need-returns
 returns c = search (needs, ends-unbound)

@@ -1,10 +1,10 @@
--- `inplace::first_place` meets its contract: rows below the low end begin with less, those from the high end on do not.
+-- `spans::first_place` meets its contract: rows below the low end begin with less, those from the high end on do not.
 -- Assumes nothing.
-use Rattle.inplace.specs.SpanLaws.{Narrowing, narrowing-begins, narrowing-up, narrowing-down, narrowing-ends, begins-unbound}
+use Rattle.spans.specs.SpanLaws.{Narrowing, narrowing-begins, narrowing-up, narrowing-down, narrowing-ends, begins-unbound}
 use Prim.Native.Nat.{_-_}
 use borrow.Author.Needs.{needs}
-use Rattle.inplace.proofs.first_place.Statement.{statement}
-use Rattle.inplace.proofs.first_place.Tie as tie
+use Rattle.spans.proofs.first_place.Statement.{statement}
+use Rattle.spans.proofs.first_place.Tie as tie
 
 abbrev Inv-loop : tie.InvT-loop
 Inv-loop kept m least low₀ high₀ low high = Narrowing m kept least low high

@@ -7,7 +7,7 @@ use native.Mathlib.Omega.{arith}
 use native.Mathlib.Decide.{ℕ-discrete}
 use lib.ListN.{getD}
 use Rattle.document.specs.Limits.{width, keptStride}
-use Rattle.inplace.specs.InPlace.{LastBound, NextFound}
+use Rattle.spans.specs.Spans.{LastBound, NextFound}
 
 -- The last bound parameter ---------------------------------------------------------------------------------------------
 

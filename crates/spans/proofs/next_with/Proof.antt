@@ -1,10 +1,10 @@
--- `inplace::next_with` meets its contract: no row that was read has the number.
+-- `spans::next_with` meets its contract: no row that was read has the number.
 -- Assumes nothing.
-use Rattle.inplace.specs.FindLaws.{Seeking, seeking-begins, seeking-turn, seeking-finds, seeking-ends}
+use Rattle.spans.specs.FindLaws.{Seeking, seeking-begins, seeking-turn, seeking-finds, seeking-ends}
 use Prim.Native.Nat.{_-_}
 use borrow.Author.Needs.{needs}
-use Rattle.inplace.proofs.next_with.Statement.{statement}
-use Rattle.inplace.proofs.next_with.Tie as tie
+use Rattle.spans.proofs.next_with.Statement.{statement}
+use Rattle.spans.proofs.next_with.Tie as tie
 
 abbrev Inv-loop : tie.InvT-loop
 Inv-loop kept from end parameter number i₀ i = Seeking kept from end parameter number i

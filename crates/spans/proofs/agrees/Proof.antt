@@ -1,10 +1,10 @@
--- `inplace::agrees` meets its contract: the parameters read so far agree.
+-- `spans::agrees` meets its contract: the parameters read so far agree.
 -- Assumes nothing.
-use Rattle.inplace.specs.AgreeLaws.{Agreeing, agreeing-begins, agreeing-unbound, agreeing-same, agrees-not, agrees-all}
+use Rattle.spans.specs.AgreeLaws.{Agreeing, agreeing-begins, agreeing-unbound, agreeing-same, agrees-not, agrees-all}
 use Prim.Native.Nat.{_-_}
 use borrow.Author.Needs.{needs}
-use Rattle.inplace.proofs.agrees.Statement.{statement}
-use Rattle.inplace.proofs.agrees.Tie as tie
+use Rattle.spans.proofs.agrees.Statement.{statement}
+use Rattle.spans.proofs.agrees.Tie as tie
 
 abbrev Inv-loop : tie.InvT-loop
 Inv-loop kept at last b j₀ j = Agreeing kept at b j

@@ -1,10 +1,10 @@
--- `inplace::last_bound` meets its contract: no parameter past the one that is read is bound.
+-- `spans::last_bound` meets its contract: no parameter past the one that is read is bound.
 -- Assumes nothing.
-use Rattle.inplace.specs.InPlace.{LastBound}
-use Rattle.inplace.specs.FindLaws.{last-begins, last-turn}
+use Rattle.spans.specs.Spans.{LastBound}
+use Rattle.spans.specs.FindLaws.{last-begins, last-turn}
 use borrow.Author.Needs.{needs}
-use Rattle.inplace.proofs.last_bound.Statement.{statement}
-use Rattle.inplace.proofs.last_bound.Tie as tie
+use Rattle.spans.proofs.last_bound.Statement.{statement}
+use Rattle.spans.proofs.last_bound.Tie as tie
 
 abbrev Inv-loop : tie.InvT-loop
 Inv-loop b j₀ j = LastBound b j

@@ -16,8 +16,8 @@ use Rattle.slices.specs.OrderLaws.{precedes-of, Ascends, combinations}
 use Rattle.slices.specs.TablesLaws.{keptAt}
 use Rattle.tables.specs.TablesLaws.{kept-tabulated, combinations-tabulated}
 use Rattle.combos.specs.RowsLaws.{ascends-at}
-use Rattle.inplace.specs.InPlace.{Rising, Begins, Ends, Spans, Movable}
-use Rattle.inplace.specs.AgreeLaws.{apart}
+use Rattle.spans.specs.Spans.{Rising, Begins, Ends, Spans, Movable}
+use Rattle.spans.specs.AgreeLaws.{apart}
 
 -- of two combinations in order, the first begins with no greater number
 precedes-first : (t : List ℕ) (a b : ℕ) → T (precedes (numbersAt width t a) (numbersAt width t b)) → getD t a 0 ≤ getD t b 0

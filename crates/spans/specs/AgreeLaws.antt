@@ -22,7 +22,7 @@ use Rattle.combos.specs.NumbersLaws.{getD-numbersAt, Included, included-begins,
 use Rattle.combos.specs.RowsLaws.{tabulate-in}
 use Rattle.tables.specs.Tables.{keptFrom}
 use Rattle.tables.specs.TablesLaws.{kept-tabulated}
-use Rattle.inplace.specs.InPlace.{Agree, Agrees, LastBound}
+use Rattle.spans.specs.Spans.{Agree, Agrees, LastBound}
 
 -- A row that agrees everywhere, and one that does not ------------------------------------------------------------------
 

@@ -1,0 +1,4 @@
+pub mod Spans
+pub mod AgreeLaws
+pub mod SpanLaws
+pub mod FindLaws
