@@ -23,7 +23,8 @@ use Rattle.document.specs.OneEvent.{Kept}
 use Rattle.document.specs.Session.{Session, Outcome, ascending, stepFrom, withinRooms}
 use Rattle.document.specs.Demands.{Allowed, Means, Proper, extended, ComesTo, Reached}
 use Rattle.slices.specs.Demand3.{demand-3}
-use Rattle.slices.specs.ListsLaws.{in-append, in-map, map-in}
+use Rattle.basics.specs.Lists.{in-append}
+use Rattle.slices.specs.ListsLaws.{in-map, map-in}
 use Rattle.slices.specs.HistoriesLaws.{in-slice}
 use Rattle.slices.specs.EventLaws.{history-more}
 use Rattle.demands.specs.Demand2.{demand-2}

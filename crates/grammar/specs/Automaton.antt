@@ -15,6 +15,7 @@ use Rattle.document.specs.Patterns.{Pattern}
 use Rattle.document.specs.Tokens.{Token, word, mark, isMarkOf, isWordOf}
 use Rattle.document.specs.Grammar.{Kind, Reads, one-sequence, either, one-repetition, beside, one-atom, starred, plussed, event, empty, grouped, Asks, just-match, just-fail, match-fail, fail-match, Whole, Dead}
 use Rattle.basics.specs.Tests.{not-both}
+use Rattle.basics.specs.Asked.{asks-some}
 use Rattle.grammar.specs.Sorts.{Sort, aName, opens, closes, bars, repeats, asksMatch, asksFail, others, sortOf}
 
 -- before `ere`; before `:`; where an atom must stand, and after a repetition, with the number of open parentheses; after one
@@ -163,12 +164,6 @@ module _ (declared : List (List ℕ)) where
   run-asks just-fail = refl
   run-asks match-fail = refl
   run-asks fail-match = refl
-
-  asks-some : {ts : List Token} {a : ℕ} → Asks ts a → 1 ≤ a
-  asks-some just-match = omega arith
-  asks-some just-fail = omega arith
-  asks-some match-fail = omega arith
-  asks-some fail-match = omega arith
 
   -- the machine says which verdicts a text of the grammar asks for
   pub whole-asked : {ts : List Token} {r : Pattern} {a : ℕ} → Whole declared ts r a → askedAt (run atStart ts) ≡ a

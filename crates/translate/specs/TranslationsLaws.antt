@@ -1,15 +1,12 @@
 -- Laws of the translation: one for each return.
 -- Assumes nothing.
-use Prim.Native.Nat.{ℕ, _+_, _-_, _≤_, _<_}
+use Prim.Native.Nat.{ℕ, _-_, _≤_, _<_}
 use mathlib.Core.Path.{_≡_, refl, sym, ap, ap₂, _∙_}
-use mathlib.Core.Logic.{inl, inr}
 use mathlib.Core.Bool.{true, false}
 use mathlib.Core.List.{List, _++_}
-use lib.ListN.{length, getD, replicate, length-append, length-replicate, getD-replicate, List·getD-append, List·getD-eq-default}
-use lib.Seq.{getD-append-add}
-use lib.Dec.{ltb}
+use lib.ListN.{length, getD, replicate, length-append, length-replicate}
 use native.Mathlib.Omega.{arith}
-use borrow.Author.Tests.{lt-ltb, le-ltb, ltb-true, ltb-false}
+use borrow.Author.Tests.{lt-ltb, le-ltb}
 use Rattle.document.specs.Lists.{tabulate}
 use Rattle.document.specs.Limits.{textBytes, mostEvents}
 use Rattle.document.specs.Refusals.{Refusal, textTooLong, tooManyStates, number, Answer, taken, refused}
@@ -19,11 +16,10 @@ use Rattle.document.specs.DeclarationsLaws.{declarations-offset}
 use Rattle.document.specs.Reading as doc
 use Rattle.document.specs.States.{statesOf}
 use Rattle.document.specs.Translate.{anew, translate}
-use Rattle.basics.specs.Tests.{decided}
 use Rattle.words.specs.Taken.{declarations-fit}
 use Rattle.readings.specs.declared.Reading.{Reading}
 use Rattle.readings.specs.Readings.{padded, namesAt, Stands, Reads, Inside}
-use Rattle.readings.specs.ReadingsLaws.{reads-taken, reads-refused}
+use Rattle.readings.specs.ReadingsLaws.{reads-taken, reads-refused, padded-at}
 use Rattle.sets.specs.Shapes.{shapeOf}
 use Rattle.sets.specs.ShapesLaws.{tabulate-is}
 use Rattle.pattern.specs.declared.Parsed.{Parsed}
@@ -63,24 +59,7 @@ parsed-refused (refused q at) t e l =
 padded-is : (l : List ℕ) → length l ≤ mostEvents → padded l ≡ tabulate mostEvents (λ e. getD l e 0)
 unfolding padded
 padded-is l h = tabulate-is mostEvents (λ e. getD l e 0) (l ++ replicate (mostEvents - length l) 0)
-    (simp (length-append, length-replicate) (omega arith)) (λ k _. entry k)
-  where
-    entry : (k : ℕ) → getD (l ++ replicate (mostEvents - length l) 0) k 0 ≡ getD l k 0
-    entry k = elim (decided (ltb k (length l))) [
-      | inl i ↦ List·getD-append l (replicate (mostEvents - length l) 0) 0 k (ltb-true k (length l) i)
-      | inr i ↦
-          let j = ltb-false k (length l) i in
-          let q : k ≡ length l + (k - length l) = omega arith in
-          rw (List·getD-eq-default l 0 j)
-          (ap (λ n. getD (l ++ replicate (mostEvents - length l) 0) n 0) q ∙ getD-append-add l (replicate (mostEvents - length l) 0) (k - length l) 0
-          ∙ zeros (mostEvents - length l) (k - length l))
-    ]
-      where
-        zeros : (n i : ℕ) → _≡_ {A = ℕ} (getD (replicate n 0) i 0) 0
-        zeros n i = elim (decided (ltb i n)) [
-          | inl h ↦ getD-replicate n i 0 0 (ltb-true i n h)
-          | inr h ↦ List·getD-eq-default (replicate n 0) 0 (let j = ltb-false i n h in rw length-replicate j)
-        ]
+    (simp (length-append, length-replicate) (omega arith)) (λ k _. padded-at l k)
 
 -- The table from what was read -----------------------------------------------------------------------------------------
 

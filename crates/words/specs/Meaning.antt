@@ -18,13 +18,14 @@ use Rattle.document.specs.States.{Found, statesOf, MoreStates}
 use Rattle.document.specs.Property.{Property, inRange, stateAfter, verdict}
 use Rattle.document.specs.Translate.{anew, propertyOf}
 use Rattle.document.specs.Demands.{Allowed, Means, tokensOf}
+use Rattle.basics.specs.Asked.{asks-some, asks-few}
 use Rattle.words.specs.Numbers.{Numbered, reads-numbered}
 use Rattle.words.specs.Matching.{verdict-after-total}
 use Rattle.words.specs.Closed.{Through, states-closed}
 use Rattle.words.specs.Count.{more-states}
 use Rattle.words.specs.Table.{Fits, in-range, sets-declared, verdict-after}
 use Rattle.words.specs.Taken.{declarations-fit}
-use Rattle.words.specs.Names.{names-few, asks-some, asks-few}
+use Rattle.words.specs.Names.{names-few}
 
 -- the states that the translator finds, and its table
 abbrev pub statesFor : Declared → Pattern → Found
@@ -77,7 +78,7 @@ allowed-means {events} {text} a =
       eventCount = refl;
       eventSets = table-sets d t fits few;
       asks = refl;
-      usable = table-in-range d t fits few (asks-some (d .events) (a .whole .wants)) (asks-few (d .events) (a .whole .wants));
+      usable = table-in-range d t fits few (asks-some (a .whole .wants)) (asks-few (a .whole .wants));
       verdicts = λ w among. table-total d t fits few (a .whole .names) (reads-numbered (d .events) (a .whole .reads))
           (names-few (d .events) (tokensOf text) (a .pattern) (a .asked) (a .whole) (a .faultless)) w among;
     }

@@ -1,5 +1,5 @@
 -- Document 01, "Numbers of refusal", 8: a text of the grammar without "a 32nd event name in the pattern" has at most 31 event
--- names, so its pattern's numbers are 1 to 31; and what it asks for is match, fail or both.
+-- names, so its pattern's numbers are 1 to 31.
 -- Assumes nothing.
 use Prim.Native.Nat.{ℕ, zero, suc, _+_, _<_, _≤_}
 use native.Mathlib.Omega.{arith}
@@ -95,19 +95,6 @@ module _ (declared : List (List ℕ)) where
   asks-count just-fail = refl
   asks-count match-fail = refl
   asks-count fail-match = refl
-
-  -- 1 match, 2 fail, 3 both
-  pub asks-some : {ts : List Token} {a : ℕ} → Asks ts a → 1 ≤ a
-  asks-some just-match = omega arith
-  asks-some just-fail = omega arith
-  asks-some match-fail = omega arith
-  asks-some fail-match = omega arith
-
-  pub asks-few : {ts : List Token} {a : ℕ} → Asks ts a → a ≤ 3
-  asks-few just-match = omega arith
-  asks-few just-fail = omega arith
-  asks-few match-fail = omega arith
-  asks-few fail-match = omega arith
 
 -- ---- the event name after n others
 record NameAfter (n : ℕ) (ts : List Token) : Type 0 where
