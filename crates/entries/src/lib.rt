@@ -179,7 +179,7 @@ pub fn read_row<'a, 'b, 'c>(
         return refused(refusals::WRONG_FIELDS);
     }
     Entry {
-        refusal: 0,
+        refusal: refusals::TAKEN,
         event,
         values,
     }
