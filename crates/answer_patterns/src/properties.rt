@@ -1,5 +1,4 @@
 // Property tables in requests, and the call on one (docs/CASES.md, `check`).
-ghost use Prim.Native.Nat.{_+_, _≤_};
 use batch::read;
 use batch::told::Told;
 use batch::told::refused;

@@ -1,6 +1,6 @@
 // Answers the calls of a session (docs/CASES.md, "Calls on what is remembered"): `start`, `event`, `lookup` and `grow`. Of
 // each table the numbers that are remembered as lent are lent to the library. For the trial program alone.
-ghost use Prim.Native.Nat.{_-_, _≤_};
+ghost use Prim.Native.Nat.{_≤_};
 use batch::read;
 use batch::told::refused;
 use batch::write;

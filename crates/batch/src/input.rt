@@ -1,7 +1,6 @@
 // The batch as it comes in: one buffer, of which a part is held and not yet answered.
 ghost use Prim.Native.Nat.{_+_, _≤_};
 ghost use lib.ListN.{length};
-ghost use mathlib.Core.Path.{_≡_};
 use libc::STDIN_FILENO;
 
 // The most bytes that a request has.

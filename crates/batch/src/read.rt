@@ -2,7 +2,7 @@
 // after it. What is not of the form leads to the place `STUCK`, which no buffer reaches: there every reader is stuck again, so
 // a call reads all its items and asks once, by `line_end`, whether the request was of the form.
 ghost use mathlib.Core.Path.{_≡_};
-ghost use Prim.Native.Nat.{_+_, _≤_, _<_, _^_};
+ghost use Prim.Native.Nat.{_≤_};
 ghost use lib.ListN.{length};
 
 pub const STUCK: usize = usize::MAX;

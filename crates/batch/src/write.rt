@@ -3,7 +3,6 @@
 // be of any length. `word` and `bytes` begin a line, the others go on with it after a space.
 ghost use mathlib.Core.Path.{_≡_};
 ghost use Prim.Native.Nat.{_+_, _≤_, _<_, _^_};
-ghost use lib.ListN.{length};
 use libc::STDOUT_FILENO;
 
 const LF: u8 = 10;

@@ -1,5 +1,5 @@
 // Sets of numbers as the bits of a word: bit k says whether the set holds k (document 01, "The table"; the definition is
-// `holds`). Leaves that the table and the pattern's sets share, and in specs/ the laws of `|`, `&` and one bit.
+// `holds`). Leaves that the table, the session check and the hopeful states share, and in specs/ the laws of `|`, `&` and one bit.
 ghost use mathlib.Core.Path.{_≡_};
 ghost use mathlib.Core.Bool.{cond};
 ghost use Prim.Native.Nat.{_<_, _^_};
@@ -23,7 +23,7 @@ pub fn only(k: usize) -> u64
 }
 
 // A set where a test holds, else the empty set.
-pub fn taken_if(test: bool, set: u64) -> u64
+pub fn set_if(test: bool, set: u64) -> u64
     ensures { λ r. ⌜ r ≡ cond test set 0 ⌝ }
 {
     if test { set } else { 0 }

@@ -1,10 +1,9 @@
 // Combinations, and rows of them in lent tables (document 01, "Words", "One event"). A combination is WIDTH numbers by
-// value; a table is the caller's numbers, row after row. Nothing above this crate speaks of single numbers of a row.
-// Interior: the crates `judge` and `session` stand on it.
+// value; a table is the caller's numbers, row after row. Interior.
 ghost use mathlib.Core.Path.{_≡_};
-ghost use mathlib.Core.Bool.{_&&_, _||_, not, cond};
-ghost use Prim.Native.Nat.{ℕ, _+_, _*_, _^_, _<_, _≤_};
-ghost use lib.ListN.{length, getD};
+ghost use mathlib.Core.Bool.{_||_, not, cond};
+ghost use Prim.Native.Nat.{_+_, _<_, _≤_};
+ghost use lib.ListN.{length};
 ghost use lib.Dec.{eqb};
 ghost use Rattle.document.specs.Lists.{equal, among};
 ghost use Rattle.document.specs.Limits.{width, seenStride, keptStride};

@@ -7,7 +7,7 @@ use Prim.Native.Nat.{ℕ, zero, suc, _≤_}
 use mathlib.Core.Path.{_≡_, refl, sym, subst₂, _∙_}
 use mathlib.Core.Logic.{_↔_, inl, inr}
 use mathlib.Core.Bool.{true}
-use mathlib.Core.List.{List, [], _∷_, _++_}
+use mathlib.Core.List.{List, _∷_, _++_}
 use mathlib.Core.List as list
 use native.Mathlib.Omega.{arith}
 use lib.Dec.{T}
@@ -15,7 +15,7 @@ use Rattle.document.specs.Lists.{In}
 use Rattle.document.specs.Limits.{width}
 use Rattle.document.specs.Refusals.{taken}
 use Rattle.document.specs.Patterns.{Pattern, TotalMatching, Among, fail}
-use Rattle.document.specs.Property.{Property, nextState, verdict, stateFrom, stateAfter, asksFor, isAsked}
+use Rattle.document.specs.Property.{Property, verdict, stateFrom, stateAfter, asksFor, isAsked}
 use Rattle.document.specs.Translate.{translate}
 use Rattle.document.specs.Combinations.{includes}
 use Rattle.document.specs.Histories.{Event, slice, Made}
@@ -25,6 +25,7 @@ use Rattle.document.specs.Demands.{Allowed, Means, Proper, extended, ComesTo, R
 use Rattle.slices.specs.Demand3.{demand-3}
 use Rattle.basics.specs.Lists.{in-append}
 use Rattle.slices.specs.ListsLaws.{in-map, map-in}
+use Rattle.slices.specs.PropertyLaws.{stateFrom-append}
 use Rattle.slices.specs.HistoriesLaws.{in-slice}
 use Rattle.slices.specs.EventLaws.{history-more}
 use Rattle.demands.specs.Demand2.{demand-2}
@@ -76,12 +77,6 @@ pub record Rightly {events text : List ℕ} (a : Allowed events text) (p : Prope
   pub keptInOrder : ascending (combinations (o .kept)) ≡ true
   pub kept : (c : List ℕ) → In c (combinations (o .kept)) ↔ Keeps (a .pattern) (a .asked) (p .events) H c
 
--- the state after more events
-state-through : (p : Property) (s : ℕ) (l m : List ℕ) → stateFrom p s (l ++ m) ≡ stateFrom p (stateFrom p s l) m
-unfolding stateFrom
-state-through p s [] m = refl
-state-through p s (e ∷ l) m = state-through p (nextState p s e) l m
-
 module _ (events text : List ℕ) (p : Property) (e : translate events text ≡ taken p) (a : Allowed events text) where
   means : Means a p
   means = demand-2 .means events text p e a
@@ -124,7 +119,7 @@ module _ (events text : List ℕ) (p : Property) (e : translate events text ≡ 
   verdict-through : (H : List Event) → ((h : Event) → In h H → Proper p (h .event) (h .binding)) → (c l : List ℕ) → Among (p .events) l
       → TotalMatching (a .pattern) (slice c H ++ l) (verdict p (stateFrom p (stateAfter p (slice c H)) l))
   unfolding stateAfter
-  verdict-through H f c l g = rw (← state-through p 0 (slice c H) l) (means .verdicts (slice c H ++ l) (all-declared H f c l g))
+  verdict-through H f c l g = rw (← stateFrom-append p 0 (slice c H) l) (means .verdicts (slice c H ++ l) (all-declared H f c l g))
 
   right-kept : (H : List Event) (b : List ℕ) (o : Outcome) → ((h : Event) → In h H → Proper p (h .event) (h .binding)) → ComesTo p H b o
       → (c : List ℕ) → In c (combinations (o .kept)) ↔ Keeps (a .pattern) (a .asked) (p .events) H c

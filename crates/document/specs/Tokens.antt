@@ -33,7 +33,8 @@ askToken t =
     (cond (startsWith failWord t) (record { token = ask fail; size = suc (length failWord) })
     (record { token = noToken; size = 1 }))
 
--- the token that begins with the byte b; the marks' classes are those from `(` to `+`; "a name is a longest run of name bytes that begins with a letter"
+-- the token that begins with the byte b: "A name is a longest run of name bytes that begins with a letter"; the marks' classes
+-- are those from `(` to `+`
 unfoldable pub tokenAt : ℕ → List ℕ → Sized
 tokenAt b t =
     cond (eqb (classOf b) letter) (record { token = word (nameRun (b ∷ t)); size = length (nameRun (b ∷ t)) })

@@ -2,18 +2,11 @@
 // program and its example"). What a file holds no contract can say; the count is promised to lie within the slice.
 //
 //     let mut text = [0u8; 4097];
-//     let held = files::read_whole(b"events.csv", &mut text);
-//     the file is the first held.count bytes of text, unless held.more says that the slice was too small for it.
-ghost use mathlib.Core.Path.{_≡_};
+//     let count = files::read_whole(b"events.csv", &mut text);
+//     the file is the first count bytes of text; whoever lends a byte more than is taken sees that a file is too long.
 ghost use Prim.Native.Nat.{_+_, _≤_};
 ghost use lib.ListN.{length};
 ghost use Rattle.io.specs.Counts.{Counts};
-
-// How many bytes of a file are in the slice, from its start, and whether the file has more.
-pub struct Held {
-    pub count: usize,
-    pub more: bool,
-}
 
 // How far a slice is filled, from its start; whether no more will come; and whether that is because a read failed.
 pub struct Filled {
@@ -36,16 +29,6 @@ pub fn open(path: &[u8]) -> i32 {
         os::fail(path);
     }
     fd
-}
-
-// "a missing file counts as empty", and so does one that cannot be read.
-fn nothing() -> Held
-    ensures { λ r. ⌜ r .count ≡ 0 ⌝ }
-{
-    Held {
-        count: 0,
-        more: false,
-    }
 }
 
 // One read, to the place after the bytes that are held.
@@ -91,30 +74,20 @@ pub fn fill(fd: i32, into: &mut [u8], front: usize) -> Filled
     }
 }
 
-// Whether a byte is left to be read.
-fn has_more(fd: i32) -> bool {
-    let mut byte = [0u8; 1];
-    let got = libc::read(fd, &mut byte);
-    0 < got
-}
-
-// The file of that name in the folder where the program runs. One that is there and cannot be read is said on standard error.
-pub fn read_whole(path: &[u8], into: &mut [u8]) -> Held
-    ensures { λ r. ⌜ Counts (r .count) (now (into .exit)) ⌝ }
+// How many bytes of the file of that name, in the folder where the program runs, are in the slice from its start. "A missing file
+// counts as empty", and so does one that cannot be read, which is said on standard error.
+pub fn read_whole(path: &[u8], into: &mut [u8]) -> usize
+    ensures { λ r. ⌜ Counts r (now (into .exit)) ⌝ }
 {
     let fd = open(path);
     if fd < 0 {
-        return nothing();
+        return 0;
     }
     let filled = fill(fd, into, 0);
     if filled.failed {
         os::fail(path);
-        return nothing();
+        return 0;
     }
-    let more = has_more(fd);
     libc::close(fd);
-    Held {
-        count: filled.held,
-        more,
-    }
+    filled.held
 }

@@ -1,5 +1,4 @@
 // The text of a graph (docs/GRAPH.md): a line for each state, then a line for each arrow.
-ghost use mathlib.Core.Path.{_≡_};
 use libc::STDOUT_FILENO;
 use property::Property;
 

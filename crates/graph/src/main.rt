@@ -1,5 +1,5 @@
-// Draws the state graph of a pattern as Graphviz text (docs/GRAPH.md). It reads `events.csv` and `pattern.txt` in the folder where
-// it runs; the table is that of the proved `translate`, and its hopeful states are those of the proved `hopeful`.
+// Draws the state graph of a pattern as Graphviz text (docs/GRAPH.md). It reads `events.csv` and `pattern.txt` in the folder
+// where it runs; the table is that of the proved `translate`, and its hopeful states are those of the proved `hopeful`.
 use draw::print_graph;
 use draw::print_refusal;
 
@@ -21,10 +21,8 @@ fn print_answer(declarations: &[u8], pattern: &[u8]) {
 
 fn main() {
     let mut declarations = [0u8; TEXT_ROOM];
-    let of_declarations = files::read_whole(b"events.csv", &mut declarations);
+    let declared_to = files::read_whole(b"events.csv", &mut declarations);
     let mut pattern = [0u8; TEXT_ROOM];
-    let of_pattern = files::read_whole(b"pattern.txt", &mut pattern);
-    let declared_to = of_declarations.count;
-    let pattern_to = of_pattern.count;
+    let pattern_to = files::read_whole(b"pattern.txt", &mut pattern);
     print_answer(&declarations[..declared_to], &pattern[..pattern_to]);
 }

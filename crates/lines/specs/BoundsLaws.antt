@@ -112,16 +112,7 @@ refused-number-length m n q h b s =
 pub refused-line-length : (m n : ℕ) (r : Refusal) → m ≤ width → n < 2 ^ 64 → length (refusedLine m n r) ≤ mostLine
 refused-line-length m n r h b = rw (refused-line-number m n r) (refused-number-length m n (number r) h b (number-byte r))
 
--- Whether so many bytes, or so many lines, fit in a text from a place on -----------------------------------------------------
-
-pub bytes-past : (size at most : ℕ) → size < at → false ≡ leb (at + most) size
-bytes-past size at most h = sym (lt-leb (at + most) size (omega arith))
-
-pub bytes-fit : (size at most : ℕ) → at ≤ size → leb most (size - at) ≡ leb (at + most) size
-bytes-fit size at most h = elim (decided (leb most (size - at))) [
-  | inl e ↦ let l = leb-true most (size - at) e in e ∙ sym (le-leb (at + most) size (omega arith))
-  | inr e ↦ let l = leb-false most (size - at) e in e ∙ sym (lt-leb (at + most) size (omega arith))
-]
+-- Whether so many lines fit in a text from a place on ------------------------------------------------------------------------
 
 pub none-fit : (size at count : ℕ) → size < at → false ≡ leb (at + count * mostLine) size
 none-fit size at count h = sym (lt-leb (at + count * mostLine) size (omega arith))

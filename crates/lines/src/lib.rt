@@ -1,6 +1,6 @@
 // The lines that the watch program prints, written into lent bytes (document 01, "The program and its example").
 // Interior: a line is written at a place of the caller's text, and the place after it is given back. The caller sees to the
-// room, by `lines_fit` and its like. It leans on `decimals` and `rows`.
+// room, by `lines_fit`, or by lending `MOST_HEADING` or `MOST_REFUSAL` bytes. It leans on `decimals` and `rows`.
 //
 //     put_reports(text, at, 2, 7, [5, 0, 0, 0, 1], 1) writes `7,match,5,` and a line end at the place `at`.
 ghost use mathlib.Core.Path.{_≡_};
@@ -131,28 +131,6 @@ fn put_line_end(text: &mut [u8], at: usize) -> usize
 }
 
 // Room ------------------------------------------------------------------------------------------------------------------
-
-// Whether so many bytes fit in a text of a size from a place on.
-fn bytes_fit(size: usize, at: usize, most: usize) -> bool
-    ensures { λ r. ⌜ r ≡ leb (at + most) size ⌝ }
-{
-    if size < at {
-        return false;
-    }
-    most <= size - at
-}
-
-pub fn heading_fits(size: usize, at: usize) -> bool
-    ensures { λ r. ⌜ r ≡ leb (at + mostHeading) size ⌝ }
-{
-    bytes_fit(size, at, MOST_HEADING)
-}
-
-pub fn refusal_fits(size: usize, at: usize) -> bool
-    ensures { λ r. ⌜ r ≡ leb (at + mostRefusal) size ⌝ }
-{
-    bytes_fit(size, at, MOST_REFUSAL)
-}
 
 // Whether so many lines fit, however long they are.
 pub fn lines_fit(size: usize, at: usize, count: usize) -> bool

@@ -16,6 +16,15 @@ use combos::Combination;
 // Transitions of a state in a property table, one an event.
 const MOST_EVENTS: usize = 16;
 
+// What is worked out once for a property and then used at each event: its counts, and its hopeful states and those whose
+// verdict is asked for, as bits.
+pub struct Known {
+    pub parameters: usize,
+    pub states: usize,
+    pub hopeful: u64,
+    pub asked: u64,
+}
+
 // A number as a place.
 pub fn wide(x: u32) -> usize
     ensures { λ r. ⌜ r ≡ x ⌝ }
@@ -46,15 +55,6 @@ pub fn is_among(states: u64, s: u32) -> bool
     ensures { λ r. ⌜ r ≡ holds states s ⌝ }
 {
     bits::has(states, wide(s))
-}
-
-// What is worked out once for a property and then used at each event: its counts, and its hopeful states and those whose
-// verdict is asked for, as bits.
-pub struct Known {
-    pub parameters: usize,
-    pub states: usize,
-    pub hopeful: u64,
-    pub asked: u64,
 }
 
 // The state that an event leads to.

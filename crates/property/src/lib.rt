@@ -5,7 +5,7 @@
 //     table that is taken: `hopeful(p)` has bit s where one or more events lead from s to a verdict asked for.
 ghost use mathlib.Core.Path.{_≡_};
 ghost use mathlib.Core.Bool.{true, _&&_};
-ghost use Prim.Native.Nat.{_+_, _*_, _≤_, _<_};
+ghost use Prim.Native.Nat.{_≤_, _<_};
 ghost use lib.Dec.{leb};
 ghost use Rattle.document.specs.Limits.{width, mostEvents, mostStates};
 ghost use Rattle.document.specs.Property.{inRange, asksFor};
@@ -161,7 +161,7 @@ pub fn asked_states(p: Property) -> u64
     let mut found = 0u64;
     let mut s: usize = 0;
     while s < states {
-        found = found | bits::taken_if(asks_for(asked, verdicts[s]), bits::only(s));
+        found = found | bits::set_if(asks_for(asked, verdicts[s]), bits::only(s));
         s += 1;
     }
     found
@@ -176,7 +176,7 @@ fn ways(next: &[u8; 1024], s: usize, events: usize, states: usize, allowed: u64)
     let mut e: usize = 0;
     while e < events {
         let to = wide(next[s * MOST_EVENTS + e]);
-        found = found | bits::taken_if(bits::has(allowed, e), bits::only(to));
+        found = found | bits::set_if(bits::has(allowed, e), bits::only(to));
         e += 1;
     }
     found
@@ -204,7 +204,7 @@ fn round(ways: &[u64; 64], states: usize, goal: u64) -> u64
     let mut found = 0u64;
     let mut s: usize = 0;
     while s < states {
-        found = found | bits::taken_if(bits::meet(ways[s], goal), bits::only(s));
+        found = found | bits::set_if(bits::meet(ways[s], goal), bits::only(s));
         s += 1;
     }
     found

@@ -5,8 +5,8 @@
 //     let mut r = reader_at(b"a,1\r\nb,2", 0);
 //     hand_out(&mut r) is the row `a,1`, then `b,2`, then none.
 ghost use mathlib.Core.Path.{_≡_};
-ghost use Prim.Native.Nat.{_+_, _-_};
-ghost use lib.ListN.{length, take, drop};
+ghost use Prim.Native.Nat.{_-_};
+ghost use lib.ListN.{take, drop};
 ghost use Rattle.rows.specs.Places.{PartAt, Lies, placeFrom};
 ghost use Rattle.reader.specs.Handing.{placeAt, HandsOut};
 

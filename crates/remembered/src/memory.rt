@@ -1,7 +1,5 @@
 // What a batch remembers, and the requests that set it (docs/CASES.md, "What a batch remembers"). The tables and the
 // declarations lie in arrays of `main`, of which the first numbers or bytes are lent.
-ghost use Prim.Native.Nat.{_-_, _≤_};
-ghost use lib.ListN.{length};
 use batch::read;
 use property::Property;
 

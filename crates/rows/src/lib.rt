@@ -1,11 +1,11 @@
 // Rows of a text, fields of a row, and numbers in fields (document 01, "The declarations", "Log rows and the run").
-// Nothing above this crate speaks of line ends, and of commas only `entries`, which counts a log row's fields by them in the
-// pass that it makes for barred bytes. The face: `field`.
+// Where a row ends and its fields stand is said here alone; `entries` counts a log row's commas in its pass for barred bytes,
+// `watch` looks for the last line end that it holds. The face: `field`.
 //
 //     field(b"feed,1,7", 2) is the part `7` of the row; field(b"feed,1,7", 3) is the empty part at its start.
 ghost use mathlib.Core.Path.{_≡_};
-ghost use Prim.Native.Nat.{ℕ, _+_, _-_, _≤_, _<_};
-ghost use lib.ListN.{length, getD, take, drop};
+ghost use Prim.Native.Nat.{_+_, _≤_, _<_};
+ghost use lib.ListN.{length, getD, drop};
 ghost use Rattle.document.specs.Lists.{equal};
 ghost use Rattle.document.specs.Rows.{endsRow, firstRow, stray, field, valueOf};
 ghost use Rattle.document.specs.Log.{nextAt};
@@ -27,6 +27,7 @@ const LARGEST_VALUE: u64 = 4294967295;
 // How many fields a row of declarations or of a log can have: an event and a parameter each.
 pub const MOST_FIELDS: usize = 5;
 
+// Whether a line end stands at a place.
 fn ends_at(s: &[u8], i: usize) -> bool
     requires { ⌜ i < length (now s) ⌝ }
     ensures { λ r. ⌜ r ≡ endsRow (getD (now (s .entry)) i 0) (drop (i + 1) (now (s .entry))) ⌝ }

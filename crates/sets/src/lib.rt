@@ -4,11 +4,12 @@
 // Interior: the readers of the crate `pattern` build a pattern's shape with it, and `states` goes through its sets.
 ghost use mathlib.Core.Path.{_≡_};
 ghost use mathlib.Core.Bool.{cond, _||_, _&&_};
-ghost use Prim.Native.Nat.{ℕ, _≤_, _<_, _^_};
+ghost use Prim.Native.Nat.{_≤_, _<_};
 ghost use Rattle.document.specs.Patterns.{epsilon, name};
 ghost use Rattle.document.specs.Positions.{holds};
 ghost use Rattle.sets.specs.Shapes.{mergeOf, linkOf, shapeOf, eitherShape, thenShape, starShape, plusShape};
 
+// What a part of a pattern carries: `follow` at a number those that can come next after it, `named` at an event those that name it.
 pub struct Shape {
     pub null: bool,
     pub first: u32,

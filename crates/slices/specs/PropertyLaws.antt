@@ -45,7 +45,7 @@ ranges p r =
 
 -- the state after a sequence -------------------------------------------------------------------------------------------
 
-stateFrom-append : (p : Property) (s : ℕ) (l m : List ℕ) → stateFrom p s (l ++ m) ≡ stateFrom p (stateFrom p s l) m
+pub stateFrom-append : (p : Property) (s : ℕ) (l m : List ℕ) → stateFrom p s (l ++ m) ≡ stateFrom p (stateFrom p s l) m
 unfolding stateFrom
 stateFrom-append p s [] m = refl
 stateFrom-append p s (e ∷ l) m = stateFrom-append p (nextState p s e) l m

@@ -1,7 +1,7 @@
 // Tokens of a pattern text (document 01, "The pattern text"): what stands at a place, and where it ends.
 // Interior: the readers of the crate `pattern` go from token to token with it.
 ghost use mathlib.Core.Path.{_≡_};
-ghost use Prim.Native.Nat.{ℕ, _+_, _≤_};
+ghost use Prim.Native.Nat.{_+_, _≤_};
 ghost use lib.ListN.{length, drop};
 ghost use Rattle.document.specs.Lists.{startsWith, takeWhile};
 ghost use Rattle.document.specs.Classes.{isBlank};

@@ -5,7 +5,7 @@
 //     With the events mix, feed and drain declared, the pattern `ere : mix feed+ drain @match` gives a table of 5 states;
 //     `ere : mix feed+ (drain @match` is refused 6 at offset 23, the place of `@match`.
 ghost use mathlib.Core.Path.{_≡_};
-ghost use Prim.Native.Nat.{ℕ, _≤_};
+ghost use Prim.Native.Nat.{_≤_};
 ghost use Rattle.document.specs.Limits.{mostEvents};
 ghost use Rattle.document.specs.Translate.{translate};
 ghost use Rattle.translate.specs.Translations.{refusedTable, translatedOf, Tables};

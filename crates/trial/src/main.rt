@@ -46,8 +46,8 @@ fn answer_alone(word: &[u8], s: &[u8], at: usize, out: &mut [u8], filled: usize)
     answer_watch::answer(word, s, at, out, filled)
 }
 
-// The answer of a call on what is remembered. A group whose calls change the tables is chosen by its word, and none is asked after
-// it. `of_row` holds the reports of the last row.
+// The answer of a call on what is remembered. A group whose calls change the tables is chosen by its word, and none is asked
+// after it. `of_row` holds the reports of the last row.
 fn answer_on_memory(
     word: &[u8],
     s: &[u8],

@@ -169,6 +169,7 @@ fn print_window(
     )
 }
 
+// One turn over the log: what the window holds is printed, and the window is filled again.
 fn turn(
     fd: i32,
     declarations: &[u8],
@@ -221,7 +222,8 @@ fn print_log(
     }
 }
 
-// Where declarations, pattern and header are taken: starts the session, and prints the heading and the log.
+// Where declarations, pattern and header are taken: starts the session, and prints the heading and the log. Start is not refused:
+// the table was translated, and there is room for the first kept row.
 fn print_all(
     fd: i32,
     declarations: &[u8],
@@ -250,6 +252,7 @@ fn print_all(
     print_log(fd, declarations, p, seen, kept, reports, log, text, begun);
 }
 
+// The output for both texts and the log: the one line of a refusal, or the heading and the log's lines.
 fn watch(
     declarations: &[u8],
     pattern: &[u8],
@@ -279,11 +282,9 @@ fn watch(
 
 fn main() {
     let mut declarations = [0u8; TEXT_ROOM];
-    let of_declarations = files::read_whole(b"events.csv", &mut declarations);
+    let declared_to = files::read_whole(b"events.csv", &mut declarations);
     let mut pattern = [0u8; TEXT_ROOM];
-    let of_pattern = files::read_whole(b"pattern.txt", &mut pattern);
-    let declared_to = of_declarations.count;
-    let pattern_to = of_pattern.count;
+    let pattern_to = files::read_whole(b"pattern.txt", &mut pattern);
     let mut seen = [0u32; session::SEEN_NUMBERS];
     let mut kept = [0u32; session::KEPT_NUMBERS];
     let mut reports = [0u32; REPORT_NUMBERS];

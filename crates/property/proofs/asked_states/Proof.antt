@@ -28,8 +28,8 @@ asks-for-requires c κs = search needs
 only-requires : tie.Need-only-requires Inv-loop μ-loop
 only-requires c κs = search needs
 
-taken-if-requires : tie.Need-taken-if-requires Inv-loop μ-loop
-taken-if-requires c κs = search needs
+set-if-requires : tie.Need-set-if-requires Inv-loop μ-loop
+set-if-requires c κs = search needs
 
 add-s : tie.Need-add-s Inv-loop μ-loop
 add-s c = search needs
@@ -53,7 +53,7 @@ asked-states-spec =
     array-read-asks-for
     asks-for-requires
     only-requires
-    taken-if-requires
+    set-if-requires
     add-s
     loop-less
     loop-again

@@ -28,8 +28,8 @@ meet-requires c κs = search needs
 only-requires : tie.Need-only-requires Inv-loop μ-loop
 only-requires c κs = search needs
 
-taken-if-requires : tie.Need-taken-if-requires Inv-loop μ-loop
-taken-if-requires c κs = search needs
+set-if-requires : tie.Need-set-if-requires Inv-loop μ-loop
+set-if-requires c κs = search needs
 
 add-s : tie.Need-add-s Inv-loop μ-loop
 add-s c = search needs
@@ -54,7 +54,7 @@ round-spec =
     element-copy-out-meet
     meet-requires
     only-requires
-    taken-if-requires
+    set-if-requires
     add-s
     loop-less
     loop-again

@@ -34,8 +34,8 @@ has-requires c κs = search needs
 only-requires : tie.Need-only-requires Inv-loop μ-loop
 only-requires c κs = search (needs, ways-to)
 
-taken-if-requires : tie.Need-taken-if-requires Inv-loop μ-loop
-taken-if-requires c κs = search needs
+set-if-requires : tie.Need-set-if-requires Inv-loop μ-loop
+set-if-requires c κs = search needs
 
 add-e : tie.Need-add-e Inv-loop μ-loop
 add-e c = search needs
@@ -44,7 +44,7 @@ loop-less : tie.Need-loop-less Inv-loop μ-loop
 loop-less c = search needs
 
 loop-again : tie.Need-loop-again Inv-loop μ-loop
-loop-again c = (search needs, search needs, search needs, ways-more _ _ _ _ _ _ _ _ _ (c .before .before .before .before .before .before .loop .inv .3) (c .before .before .before .wide .ensures) (c .before .before .has .ensures) (c .before .only .ensures) (c .taken-if .ensures))
+loop-again c = (search needs, search needs, search needs, ways-more _ _ _ _ _ _ _ _ _ (c .before .before .before .before .before .before .loop .inv .3) (c .before .before .before .wide .ensures) (c .before .before .has .ensures) (c .before .only .ensures) (c .set-if .ensures))
 
 returns : tie.Need-returns Inv-loop μ-loop
 returns c = search (needs, ways-all)
@@ -62,7 +62,7 @@ ways-spec =
     wide-requires
     has-requires
     only-requires
-    taken-if-requires
+    set-if-requires
     add-e
     loop-less
     loop-again
