@@ -11,6 +11,7 @@ use crate::make::maker::make;
 
 pub mod broken;
 pub mod declarations;
+pub mod edges;
 pub mod logs;
 pub mod patterns;
 pub mod properties;
@@ -52,6 +53,7 @@ pub fn all() -> Vec<Case> {
         rooms::cases(),
         logs::cases(),
         watch::cases(),
+        edges::cases(),
     ]
     .into_iter()
     .flatten()
