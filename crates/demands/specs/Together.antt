@@ -8,7 +8,6 @@ use mathlib.Core.Path.{_≡_, refl, sym, subst₂, _∙_}
 use mathlib.Core.Logic.{_↔_, inl, inr}
 use mathlib.Core.Bool.{true}
 use mathlib.Core.List.{List, _∷_, _++_}
-use mathlib.Core.List as list
 use native.Mathlib.Omega.{arith}
 use lib.Dec.{T}
 use Rattle.document.specs.Lists.{In}
@@ -25,6 +24,7 @@ use Rattle.document.specs.Demands.{Allowed, Means, Proper, extended, ComesTo, R
 use Rattle.slices.specs.Demand3.{demand-3}
 use Rattle.basics.specs.Lists.{in-append}
 use Rattle.slices.specs.ListsLaws.{in-map, map-in}
+use Rattle.slices.specs.OrderLaws.{combinations}
 use Rattle.slices.specs.PropertyLaws.{stateFrom-append}
 use Rattle.slices.specs.HistoriesLaws.{in-slice}
 use Rattle.slices.specs.EventLaws.{history-more}
@@ -66,11 +66,8 @@ pub record Says (p : Property) (rows : List Kept) (c : List ℕ) (v : ℕ) : Typ
   pub combination : row .combination ≡ c
   pub verdict : verdict p (row .state) ≡ v
 
-abbrev pub combinations : List Kept → List (List ℕ)
-combinations rows = list.map (λ k. k .combination) rows
-
--- the outcome of an event with binding b that ends the history H is what the text asks for: its reports and what is kept, "each
--- once, in document 01's order"
+-- the outcome of an event with binding b that ends the history H is what the text asks for: its reports and what is kept, each
+-- once and in order
 pub record Rightly {events text : List ℕ} (a : Allowed events text) (p : Property) (H : List Event) (b : List ℕ) (o : Outcome) : Type 0 where
   pub reportsInOrder : ascending (combinations (o .rows)) ≡ true
   pub reports : (c : List ℕ) (v : ℕ) → Says p (o .rows) c v ↔ Reports (a .pattern) (a .asked) H b c v
