@@ -1,7 +1,7 @@
 -- The rows past the last that may include the binding; and what the pass comes to is the outcome that document 01 gives, written
 -- down.
 -- Assumes nothing.
-use Prim.Native.Nat.{ℕ, _+_, _-_, _*_, _/_, _≤_}
+use Prim.Native.Nat.{ℕ, _+_, _-_, _*_, _/_, _≤_, _<_}
 use mathlib.Core.Path.{_≡_, refl, sym, ap, ap₂, _∙_}
 use mathlib.Core.Bool.{Bool, false, not, _&&_}
 use mathlib.Core.List.{List, _++_}
@@ -11,7 +11,7 @@ use native.Mathlib.Decide.{decLt, ℕ-discrete}
 use lib.Dec.{ltb}
 use lib.ListN.{length, getD, drop, length-drop, length-map}
 use lib.Seq.{ext-getD}
-use borrow.Author.Tests.{ltb-false, not-false}
+use borrow.Author.Tests.{ltb-false, not-false, lt-ltb, le-ltb}
 use Rattle.document.specs.Limits.{width, keptStride, reportStride}
 use Rattle.document.specs.OneEvent.{Kept, see, keptAfter, reportsAfter}
 use Rattle.document.specs.Tables.{seenRows, keptRows, seenRoom, keptRoom, reportRoom, keptTable}
@@ -36,10 +36,19 @@ use Rattle.writing.specs.WriteLaws.{reports-written, reports-none}
 use Rattle.inplace.specs.InPlace.{told, MovedInPlace}
 use Rattle.inplace.specs.ToldLaws.{told-few, told-reports}
 use Rattle.inplace.specs.declared.InPlace.{InPlace}
-use Rattle.advance.specs.Advancing.{Lowered, Advanceable, Passing, Passable, Passes, PassesOn, AdvancesOn, Advances}
+use Rattle.settling.specs.Settling.{Lowered}
+use Rattle.advance.specs.Advancing.{Advanceable, Passing, Passable, Passes, PassesOn, AdvancesOn, Advances}
 use Rattle.advance.specs.PassLaws.{passing-past}
 use Rattle.advance.specs.declared.Passed.{Passed}
 use Rattle.advance.specs.declared.Advanced.{Advanced}
+
+-- Whether the event creates nothing and cannot be refused --------------------------------------------------------------
+
+pub applies-crowded : (room m r : ℕ) (g : Bool) → r ≡ room → r < m → false ≡ (not (ltb room m) && not g)
+applies-crowded room m r g q h = rw (lt-ltb room m (omega arith))
+
+pub applies-old : (room m r : ℕ) (f g : Bool) → r ≡ room → m ≤ r → f ≡ g → not f ≡ (not (ltb room m) && not g)
+applies-old room m r f g q h e = rw (le-ltb room m (omega arith), e)
 
 -- The whole pass -------------------------------------------------------------------------------------------------------
 

@@ -4,17 +4,14 @@
 -- Assumes nothing.
 use Prim.Native.Nat.{ℕ, _+_, _*_, _-_, _<_, _≤_}
 use mathlib.Core.Path.{_≡_}
-use mathlib.Core.Bool.{true, false}
-use mathlib.Core.List.{List, [], _++_}
+use mathlib.Core.List.{List, _++_}
 use mathlib.Core.List as list
 use lib.ListN.{length, getD, drop}
-use Rattle.document.specs.Lists.{In, consIf}
+use Rattle.document.specs.Lists.{In}
 use Rattle.document.specs.Limits.{width, keptStride}
-use Rattle.document.specs.Positions.{holds}
 use Rattle.document.specs.OneEvent.{Kept}
-use Rattle.document.specs.Tables.{numbersAt, reportRoom}
+use Rattle.document.specs.Tables.{reportRoom}
 use Rattle.slices.specs.OrderLaws.{Ascends, combinations}
-use Rattle.combos.specs.Writes.{Put}
 use Rattle.tables.specs.Tables.{keptFrom}
 use Rattle.moves.specs.Steps.{stepOf, stateIn}
 use Rattle.moves.specs.Ready.{Onward}
@@ -24,30 +21,6 @@ use Rattle.writing.specs.Writing.{reportOf}
 use Rattle.inplace.specs.InPlace.{told}
 use Rattle.advance.specs.declared.Passed.{Passed}
 use Rattle.advance.specs.declared.Advanced.{Advanced}
-
--- One row --------------------------------------------------------------------------------------------------------------
-
--- a row that moves to a state is reported after `count` reports, if the verdict is asked for; there are r reports then
-pub record ToldRow (verdicts : List ℕ) (asks to from count : ℕ) (c t t′ : List ℕ) (r : ℕ) : Type 0 where
-  pub rows : keptFrom r t′ from ≡ keptFrom count t from ++ consIf (holds asks to) (record { combination = c; state = getD verdicts to 0 }) []
-  pub low : (k : ℕ) → k < from → getD t′ k 0 ≡ getD t k 0
-  pub high : (k : ℕ) → from + r * keptStride ≤ k → getD t′ k 0 ≡ getD t k 0
-  pub more : count ≤ r
-  pub few : r ≤ count + 1
-
--- row i, which moves to a state, is written after o rows, or it is dropped; there are r rows then
-pub record MovedRow (hopes to i o : ℕ) (t t′ : List ℕ) (r : ℕ) : Type 0 where
-  pub goes : holds hopes to ≡ true → (r ≡ o + 1) × Put (o * keptStride) (numbersAt width t (i * keptStride)) to t t′
-  pub drops : holds hopes to ≡ false → (r ≡ o) × (t′ ≡ t)
-
--- the numbers from a place up to the end, moved down to another place
-pub record Lowered (from to end : ℕ) (t t′ : List ℕ) (r : ℕ) : Type 0 where
-  pub stops : r ≡ to + (end - from)
-  pub low : (k : ℕ) → k < to → getD t′ k 0 ≡ getD t k 0
-  pub mid : (k : ℕ) → to ≤ k → k < to + (end - from) → getD t′ k 0 ≡ getD t (k + (from - to)) 0
-  pub high : (k : ℕ) → to + (end - from) ≤ k → getD t′ k 0 ≡ getD t k 0
-
--- All rows -------------------------------------------------------------------------------------------------------------
 
 -- m kept rows in order, each in one of the states, and room for a report of each
 pub record Advanceable (next : List ℕ) (states e m from : ℕ) (b kept reports : List ℕ) : Type 0 where

@@ -1,4 +1,3 @@
 pub mod Advancing
-pub mod RowLaws
 pub mod PassLaws
 pub mod AdvanceLaws

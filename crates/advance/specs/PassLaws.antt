@@ -34,7 +34,8 @@ use Rattle.inplace.specs.InPlace.{movedOn, told}
 use Rattle.spans.specs.SpanLaws.{rising-of}
 use Rattle.inplace.specs.ToldLaws.{told-append, told-none, sifted-append, sifted-none}
 use Rattle.spans.specs.AgreeLaws.{apart, rows-in}
-use Rattle.advance.specs.Advancing.{ToldRow, MovedRow, Advanceable, Passing, Passable, Passes, PassesOn}
+use Rattle.settling.specs.Settling.{ToldRow, MovedRow}
+use Rattle.advance.specs.Advancing.{Advanceable, Passing, Passable, Passes, PassesOn}
 
 pub movable-of : (next : List ℕ) (states e m from : ℕ) (b kept reports : List ℕ) → Advanceable next states e m from b kept reports → Movable next states e m b kept
 movable-of next states e m from b kept reports u = record { moves = u .moves; wide = u .wide; inside = u .inside; order = u .order; within = u .within }

@@ -3,18 +3,14 @@
 // at most events are all; the pass here goes on where a row is dropped or reported. Its promise is stated by the definitions
 // of `keeping` and `writing`.
 // Interior: `applies` and `advance`, for a session that was judged.
-ghost use Prim.Native.Nat.{_+_, _*_, _<_, _≤_};
 ghost use mathlib.Core.Path.{_≡_};
 ghost use mathlib.Core.Bool.{not, _&&_};
-ghost use lib.ListN.{length, getD, drop};
-ghost use lib.Dec.{eqb, ltb};
-ghost use Rattle.document.specs.Limits.{width, keptStride, mostStates};
-ghost use Rattle.document.specs.Combinations.{includes};
-ghost use Rattle.document.specs.Tables.{numbersAt, seenRows, reportRoom};
+ghost use lib.ListN.{drop};
+ghost use lib.Dec.{ltb};
+ghost use Rattle.document.specs.Tables.{seenRows, reportRoom};
 ghost use Rattle.combos.specs.Rows.{SeenInOrder};
-ghost use Rattle.combos.specs.Writes.{Put};
 ghost use Rattle.moves.specs.Steps.{isNew};
-ghost use Rattle.advance.specs.Advancing.{ToldRow, MovedRow, Lowered, Advanceable, Passable, PassesOn, AdvancesOn, Advances};
+ghost use Rattle.advance.specs.Advancing.{Advanceable, Passable, PassesOn, AdvancesOn, Advances};
 use combos::Combination;
 use combos::KEPT_STRIDE;
 use combos::WIDTH;
@@ -52,101 +48,6 @@ pub fn applies(
     !moves::is_new(b, seen, n)
 }
 
-// Rows that include the binding -----------------------------------------------------------------------------------------
-
-// Whether a row begins with another number than the binding, which binds the first parameter: rows ascend, so none from there
-// on includes the binding. `first` is the binding's first number.
-fn lies_past(kept: &[u32], at: usize, first: u32) -> bool
-    requires { ⌜ at < length (now kept) ⌝ }
-    ensures { λ r. ⌜ r ≡ (not (eqb first 0) && not (eqb (getD (now (kept .entry)) at 0) first)) ⌝ }
-{
-    if first != 0 {
-        return kept[at] != first;
-    }
-    false
-}
-
-// Whether the combination that a row begins with includes the binding, compared in place.
-fn includes_at(kept: &[u32], at: usize, b: Combination) -> bool
-    requires { ⌜ at + width ≤ length (now kept) ⌝ }
-    ensures { λ r. ⌜ r ≡ includes (numbersAt width (now (kept .entry)) at) b ⌝ }
-{
-    let mut j: usize = 0;
-    while j < WIDTH {
-        let y = b[j];
-        if y == 0 {
-            j += 1;
-        } else {
-            if kept[at + j] != y {
-                return false;
-            }
-            j += 1;
-        }
-    }
-    true
-}
-
-// One row ---------------------------------------------------------------------------------------------------------------
-
-// The report of a row that moves to a state, if its verdict is asked for, after `count` reports. Answers how many there are
-// then.
-fn tell(
-    verdicts: &[u8; 64],
-    asked: u64,
-    kept: &[u32],
-    at: usize,
-    to: u32,
-    reports: &mut [u32],
-    from: usize,
-    count: usize,
-) -> usize
-    requires { ⌜ (to < mostStates) × (at + width ≤ length (now kept)) × (from + (count + 1) * keptStride ≤ length (now reports)) ⌝ }
-    ensures { λ r. ⌜ ToldRow (now (verdicts .entry)) asked to from count (numbersAt width (now (kept .entry)) at) (now (reports .entry)) (now (reports .exit)) r ⌝ }
-{
-    if !moves::is_among(asked, to) {
-        return count;
-    }
-    let state = moves::wide(to);
-    let verdict = moves::number(verdicts[state]);
-    combos::write_kept(
-        reports,
-        from + count * KEPT_STRIDE,
-        combos::row_at(kept, at),
-        verdict,
-    );
-    count + 1
-}
-
-// Row i, which moves to a state, after o rows; or it is dropped. Answers how many rows there are then.
-fn settle(hopeful: u64, kept: &mut [u32], i: usize, o: usize, to: u32) -> usize
-    requires { ⌜ (to < mostStates) × (o ≤ i) × ((i + 1) * keptStride ≤ length (now kept)) ⌝ }
-    ensures { λ r. ⌜ MovedRow hopeful to i o (now (kept .entry)) (now (kept .exit)) r ⌝ }
-{
-    if !moves::is_among(hopeful, to) {
-        return o;
-    }
-    let at = i * KEPT_STRIDE;
-    if o == i {
-        kept[at + WIDTH] = to;
-        return o + 1;
-    }
-    combos::write_kept(kept, o * KEPT_STRIDE, combos::row_at(kept, at), to);
-    o + 1
-}
-
-// Row i as it is, after o rows.
-fn stay(kept: &mut [u32], i: usize, o: usize)
-    requires { ⌜ (o ≤ i) × ((i + 1) * keptStride ≤ length (now kept)) ⌝ }
-    ensures { λ _. ⌜ Put (o * keptStride) (numbersAt width (now (kept .entry)) (i * keptStride)) (getD (now (kept .entry)) (i * keptStride + width) 0) (now (kept .entry)) (now (kept .exit)) ⌝ }
-{
-    if o == i {
-        return;
-    }
-    let at = i * KEPT_STRIDE;
-    let state = kept[at + WIDTH];
-    combos::write_kept(kept, o * KEPT_STRIDE, combos::row_at(kept, at), state);
-}
-
 // All rows --------------------------------------------------------------------------------------------------------------
 
 // Every row from row `low` on that may include the binding: those before it are moved already.
@@ -171,20 +72,20 @@ fn pass(
     let mut count: usize = 0;
     while i < m {
         let at = i * KEPT_STRIDE;
-        if lies_past(kept, at, first) {
+        if settling::lies_past(kept, at, first) {
             return Passed {
                 row: i,
                 left: o,
                 reported: count,
             };
         }
-        if includes_at(kept, at, b) {
+        if settling::includes_at(kept, at, b) {
             let to = moves::next_state(next, kept[at + WIDTH], e);
-            count = tell(verdicts, known.asked, kept, at, to, reports, from, count);
-            o = settle(known.hopeful, kept, i, o, to);
+            count = settling::tell(verdicts, known.asked, kept, at, to, reports, from, count);
+            o = settling::settle(known.hopeful, kept, i, o, to);
             i += 1;
         } else {
-            stay(kept, i, o);
+            settling::stay(kept, i, o);
             o += 1;
             i += 1;
         }
@@ -194,21 +95,6 @@ fn pass(
         left: o,
         reported: count,
     }
-}
-
-// Moves the numbers from a place up to the end down to another place. Answers the place after them.
-fn lower(t: &mut [u32], from: usize, to: usize, end: usize) -> usize
-    requires { ⌜ (to ≤ from) × (from ≤ end) × (end ≤ length (now t)) ⌝ }
-    ensures { λ r. ⌜ Lowered from to end (now (t .entry)) (now (t .exit)) r ⌝ }
-{
-    let mut p = from;
-    let mut q = to;
-    while p < end {
-        t[q] = t[p];
-        p += 1;
-        q += 1;
-    }
-    q
 }
 
 // The rows from row `low` on, and those past the last that may include the binding: they move down by as many as were dropped.
@@ -235,7 +121,7 @@ fn pass_on(
         };
     }
     let end = m * KEPT_STRIDE;
-    let after = lower(kept, a.row * KEPT_STRIDE, a.left * KEPT_STRIDE, end);
+    let after = settling::lower(kept, a.row * KEPT_STRIDE, a.left * KEPT_STRIDE, end);
     combos::clear(kept, after, end);
     Advanced {
         kept: m - (a.row - a.left),

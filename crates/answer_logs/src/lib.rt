@@ -8,7 +8,7 @@ use answer_sessions::unanswered;
 use answer_sessions::within;
 use batch::read;
 use batch::write;
-use log::Ran;
+use turns::Ran;
 use remembered::Step;
 use remembered::memory;
 use remembered::memory::Memory;

@@ -11,11 +11,12 @@ use borrow.Author.Tests.{eq-eqb, ne-eqb, not-true, not-false}
 use Rattle.document.specs.Lists.{everyBelow}
 use Rattle.document.specs.Limits.{mostEvents}
 use Rattle.document.specs.Positions.{holds}
-use Rattle.document.specs.Refusals.{number, badProperty, badSession, tableDiffers, taken, refused}
+use Rattle.document.specs.Refusals.{number, badProperty, badSession, tableDiffers, taken, refused, Refusal, Answer}
 use Rattle.document.specs.Declarations.{Declared}
 use Rattle.document.specs.Property.{Property, inRange, setOf}
 use Rattle.document.specs.Session.{Session, sound}
 use Rattle.document.specs.Log.{agrees, judged}
+use Rattle.document.specs.RefusalsLaws.{number-some}
 use Rattle.words.specs.Range.{in-range-range}
 use Rattle.readings.specs.declared.Reading.{Reading}
 use Rattle.readings.specs.Readings.{padded, Stands, Reads}
@@ -126,3 +127,30 @@ module _ (text : List ℕ) (p : Property) (s : Session) (t : Reading) (reads : R
             let b : Good text p s (w .said) (record { refusal = 0; reading = t; known = k }) =
             record { declares = w .is; stands = w .stands; range = range; agree = agree₁; sound = sound₁; known = u } in
             record { says = subst (JudgedAs text p s r) (sym e) (rw q (refl, b)) }
+
+-- What was judged ------------------------------------------------------------------------------------------------------
+
+pub record JudgedGood (text : List ℕ) (p : Property) (s : Session) (r : Judged) : Type 0 where
+  pub said : Declared
+  pub is : judged text p s ≡ taken said
+  pub good : Good text p s said r
+
+pub record JudgedBad (text : List ℕ) (p : Property) (s : Session) (r : Judged) : Type 0 where
+  pub why : Refusal
+  pub at : ℕ
+  pub is : judged text p s ≡ refused why at
+  pub number : r .refusal ≡ number why
+
+pub judges-good : (text : List ℕ) (p : Property) (s : Session) (r : Judged) → Judges text p s r → r .refusal ≡ 0 → JudgedGood text p s r
+judges-good text p s r j z = go (judged text p s) refl (j .says)
+  where
+    go : (a : Answer Declared) → judged text p s ≡ a → JudgedAs text p s r a → JudgedGood text p s r
+    go (taken d) e w = record { said = d; is = e; good = w .1 }
+    go (refused q at) e w = absurd (let k = number-some q in let n : r .refusal ≡ number q = w in omega arith)
+
+pub judges-bad : (text : List ℕ) (p : Property) (s : Session) (r : Judged) → Judges text p s r → (r .refusal ≡ 0 → ⊥) → JudgedBad text p s r
+judges-bad text p s r j z = go (judged text p s) refl (j .says)
+  where
+    go : (a : Answer Declared) → judged text p s ≡ a → JudgedAs text p s r a → JudgedBad text p s r
+    go (taken d) e w = absurd (z (w .0))
+    go (refused q at) e w = record { why = q; at = at; is = e; number = w }

@@ -1,5 +1,3 @@
-pub mod Stepping
-pub mod SteppingLaws
 pub mod Running
 pub mod RunningLaws
 pub mod CallsLaws

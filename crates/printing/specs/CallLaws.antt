@@ -14,8 +14,9 @@ use Rattle.judge.specs.Sound.{sessionOf}
 use Rattle.runs.specs.PrintPart.{PrintedTo}
 use Rattle.judging.specs.declared.Judged.{Judged}
 use Rattle.judging.specs.Judging.{Judges}
-use Rattle.log.specs.CallsLaws.{judges-good, judges-bad, read-same, good-sure}
-use Rattle.log.specs.Running.{readAs, Sure}
+use Rattle.judging.specs.JudgingLaws.{judges-good, judges-bad}
+use Rattle.turns.specs.Stepping.{readAs, Sure}
+use Rattle.turns.specs.SureLaws.{read-same, good-sure}
 use Rattle.printing.specs.declared.Printed.{Printed}
 use Rattle.printing.specs.Printing.{printRows, printCall, printsTo}
 use Rattle.printing.specs.Prints.{printedOf, PrintLeaves}

@@ -32,8 +32,8 @@ use Rattle.moves.specs.Steps.{stepOf, stateIn, outcomeBy}
 use Rattle.steps.specs.declared.Answered.{Answered}
 use Rattle.steps.specs.Steps.{withinRoomsBy, stepBy, answered, Leaves}
 use Rattle.writing.specs.Writing.{writtenBy}
-use Rattle.log.specs.Stepping.{rowStepBy}
-use Rattle.log.specs.RunningLaws.{row-is, row-room}
+use Rattle.turns.specs.Stepping.{rowStepBy}
+use Rattle.turns.specs.TurnsLaws.{row-is, row-room}
 use Rattle.printing.specs.declared.Printed.{Printed}
 use Rattle.printing.specs.Printing.{mostLines, fitsRow}
 use Rattle.printing.specs.Prints.{rowTextBy, answerText, TextFits, RowFits, RowPrinted}

@@ -19,9 +19,8 @@ use Rattle.decimals.specs.WrittenLaws.{written-none, written-then, written-leng
 use Rattle.moves.specs.declared.Known.{Known}
 use Rattle.runs.specs.PrintPart.{rowText, PrintedTo, nothingPrinted, linesFirst}
 use Rattle.runs.specs.SoundRuns.{row-sound}
-use Rattle.log.specs.Stepping.{rowStepBy, RowGoes}
-use Rattle.log.specs.Running.{readAs, Sure}
-use Rattle.log.specs.RunningLaws.{row-step-same, row-goes}
+use Rattle.turns.specs.Stepping.{rowStepBy, RowGoes, readAs, Sure}
+use Rattle.turns.specs.SureLaws.{row-step-same, row-goes}
 use Rattle.printing.specs.declared.Printed.{Printed}
 use Rattle.printing.specs.Printing.{fitsRow, printRows}
 use Rattle.printing.specs.Prints.{printedOf, PrintLeaves, rowTextBy, RowPrinted, OnTheWay}

@@ -15,8 +15,7 @@ ghost use Rattle.property.specs.Meaning.{meaning};
 ghost use Rattle.judge.specs.Sound.{sessionOf};
 ghost use Rattle.entries.specs.Entries.{declaredAt};
 ghost use Rattle.decimals.specs.Written.{Written};
-ghost use Rattle.log.specs.Stepping.{rowStepBy, RowGoes};
-ghost use Rattle.log.specs.Running.{readAs, Sure};
+ghost use Rattle.turns.specs.Stepping.{rowStepBy, RowGoes, readAs, Sure};
 ghost use Rattle.printing.specs.Printing.{mostLines, fitsRow, printRows, printCall, printsTo};
 ghost use Rattle.printing.specs.Prints.{answerText, PrintLeaves, TextFits, RowFits, RowPrinted};
 use moves::Known;
@@ -122,7 +121,7 @@ fn print_row<'a, 'b, 'c>(
 {
     let place = r.next;
     let end = rows::row_end(log, place);
-    let a = log::step_row(
+    let a = turns::step_row(
         declarations,
         starts,
         sizes,

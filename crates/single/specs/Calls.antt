@@ -29,7 +29,7 @@ use Rattle.session.specs.declared.Looked.{Looked}
 use Rattle.session.proofs.start.Reads as start
 use Rattle.session.proofs.event.Reads as event
 use Rattle.session.proofs.lookup.Reads as lookup
-use Rattle.log.specs.declared.Ran.{Ran}
+use Rattle.turns.specs.declared.Ran.{Ran}
 use Rattle.log.proofs.row.Reads as row
 use Rattle.log.proofs.run.Reads as run
 use Rattle.rows.specs.Places.{Lies, placeFrom}

@@ -12,8 +12,8 @@ use Rattle.rows.specs.Places.{PartAt}
 use Rattle.steps.specs.declared.Answered.{Answered}
 use Rattle.session.specs.Calls.{StartLeaves}
 use Rattle.steps.specs.Steps.{Leaves}
-use Rattle.log.specs.declared.Ran.{Ran}
-use Rattle.log.specs.Running.{RunLeaves}
+use Rattle.turns.specs.declared.Ran.{Ran}
+use Rattle.turns.specs.Turns.{RunLeaves}
 use Rattle.runs.specs.PrintPart.{PrintedTo}
 use Rattle.printing.specs.declared.Printed.{Printed}
 use Rattle.printing.specs.Prints.{PrintLeaves}

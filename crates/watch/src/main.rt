@@ -9,7 +9,6 @@ use property::Property;
 use window::Window;
 
 mod output;
-mod window;
 
 // A text of 4,096 bytes is taken. One byte more is enough to see that a text is longer, which the library then refuses.
 const TEXT_ROOM: usize = 4097;

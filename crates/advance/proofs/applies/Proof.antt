@@ -1,6 +1,6 @@
 -- `advance::applies` meets its contract: by the room, then whether the binding is new.
 -- Assumes nothing.
-use Rattle.advance.specs.RowLaws.{applies-crowded, applies-old}
+use Rattle.advance.specs.AdvanceLaws.{applies-crowded, applies-old}
 use borrow.Author.Needs.{needs}
 use Rattle.advance.proofs.applies.Statement.{statement}
 use Rattle.advance.proofs.applies.Tie as tie

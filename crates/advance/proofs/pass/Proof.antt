@@ -4,7 +4,7 @@ use Rattle.advance.specs.PassLaws.{Underway, underway-begins, underway-r
 use Rattle.document.specs.Limits.{keptStride}
 use lib.ListN.{length, getD}
 use mathlib.Core.Path.{_≡_}
-use Rattle.advance.specs.RowLaws.{moved-before}
+use Rattle.settling.specs.SettlingLaws.{moved-before}
 use Prim.Native.Nat.{_-_, _*_, _≤_}
 use borrow.Author.Needs.{needs}
 use Rattle.advance.proofs.pass.Statement.{statement}

@@ -4,8 +4,10 @@ use Prim.Native.Nat.{_^_, _-_, _<_}
 use Rattle.document.specs.Log.{runFrom}
 use Rattle.property.specs.Meaning.{meaning}
 use Rattle.judge.specs.Sound.{sessionOf}
-use Rattle.log.specs.Running.{readAs, Going}
-use Rattle.log.specs.RunningLaws.{row-goes, going-start, going-onward, going-spent, going-ended, loop-refused, loop-taken, loop-counts}
+use Rattle.turns.specs.Stepping.{readAs}
+use Rattle.turns.specs.SureLaws.{row-goes}
+use Rattle.log.specs.Running.{Going}
+use Rattle.log.specs.RunningLaws.{going-start, going-onward, going-spent, going-ended, loop-refused, loop-taken, loop-counts}
 use mathlib.Core.Path.{_≡_, refl}
 use native.Mathlib.Omega.{arith}
 use borrow.Author.Needs.{needs}

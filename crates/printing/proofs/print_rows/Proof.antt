@@ -5,7 +5,7 @@ use mathlib.Core.Path.{_≡_}
 use lib.ListN.{length}
 use Rattle.property.specs.Meaning.{meaning}
 use Rattle.judge.specs.Sound.{sessionOf}
-use Rattle.log.specs.Running.{readAs, Sure}
+use Rattle.turns.specs.Stepping.{readAs, Sure}
 use Rattle.printing.specs.Printing.{printRows}
 use Rattle.printing.specs.Prints.{OnTheWay}
 use Rattle.printing.specs.RowLaws.{row-fits}
