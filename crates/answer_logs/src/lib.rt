@@ -8,12 +8,12 @@ use answer_sessions::unanswered;
 use answer_sessions::within;
 use batch::read;
 use batch::write;
-use turns::Ran;
 use remembered::Step;
 use remembered::memory;
 use remembered::memory::Memory;
 use remembered::tables;
 use steps::Answered;
+use turns::Ran;
 
 // Room for the lines of a row that are printed: those of 3,005 reports, more than any chosen batch has.
 const LINES_BYTES: usize = 3005 * lines::MOST_LINE;

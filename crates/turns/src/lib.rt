@@ -70,7 +70,14 @@ pub struct Ran {
     pub reported: usize,
 }
 
-pub fn ran_to(refusal: u8, taken: usize, next: usize, seen: usize, kept: usize, reported: usize) -> Ran
+pub fn ran_to(
+    refusal: u8,
+    taken: usize,
+    next: usize,
+    seen: usize,
+    kept: usize,
+    reported: usize,
+) -> Ran
     ensures { λ r. ⌜ r ≡ record { refusal = refusal; taken = taken; next = next; seen = seen; kept = kept; reported = reported } ⌝ }
 {
     Ran {
