@@ -16,7 +16,7 @@ use Rattle.document.specs.Limits.{width, keptStride, reportStride}
 use Rattle.document.specs.OneEvent.{Kept, see, keptAfter, reportsAfter}
 use Rattle.document.specs.Tables.{seenRows, keptRows, seenRoom, keptRoom, reportRoom, keptTable}
 use Rattle.slices.specs.TestsLaws.{so, not-of, and-of}
-use Rattle.combos.specs.Writes.{ZeroIn}
+use Rattle.ordered.specs.Writes.{ZeroIn}
 use Rattle.tables.specs.Tables.{keptFrom}
 use Rattle.tables.specs.TablesLaws.{kept-move, kept-two, kept-rows, length-keptFrom}
 use Rattle.tables.specs.WholeLaws.{kept-table}

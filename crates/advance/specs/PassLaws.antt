@@ -22,7 +22,7 @@ use Rattle.basics.specs.Tests.{decided}
 use Rattle.slices.specs.TestsLaws.{so, not-of, and-of}
 use Rattle.slices.specs.ListsLaws.{map-append}
 use Rattle.slices.specs.TablesLaws.{keptAt}
-use Rattle.combos.specs.Writes.{Put}
+use Rattle.ordered.specs.Writes.{Put}
 use Rattle.tables.specs.Tables.{keptFrom}
 use Rattle.tables.specs.TablesLaws.{kept-more, kept-two, row-move}
 use Rattle.moves.specs.Steps.{stepOf, stateIn}

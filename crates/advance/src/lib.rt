@@ -8,7 +8,7 @@ ghost use mathlib.Core.Bool.{not, _&&_};
 ghost use lib.ListN.{drop};
 ghost use lib.Dec.{ltb};
 ghost use Rattle.document.specs.Tables.{seenRows, reportRoom};
-ghost use Rattle.combos.specs.Rows.{SeenInOrder};
+ghost use Rattle.ordered.specs.Rows.{SeenInOrder};
 ghost use Rattle.moves.specs.Steps.{isNew};
 ghost use Rattle.advance.specs.Advancing.{Advanceable, Passable, PassesOn, AdvancesOn, Advances};
 use combos::Combination;
@@ -122,7 +122,7 @@ fn pass_on(
     }
     let end = m * KEPT_STRIDE;
     let after = settling::lower(kept, a.row * KEPT_STRIDE, a.left * KEPT_STRIDE, end);
-    combos::clear(kept, after, end);
+    ordered::clear(kept, after, end);
     Advanced {
         kept: m - (a.row - a.left),
         reported: a.reported,

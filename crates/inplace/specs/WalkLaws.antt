@@ -15,7 +15,7 @@ use Rattle.document.specs.Combinations.{includes}
 use Rattle.document.specs.OneEvent.{Kept}
 use Rattle.document.specs.Tables.{numbersAt}
 use Rattle.slices.specs.TablesLaws.{keptAt}
-use Rattle.combos.specs.WritesLaws.{stays-put, state-put}
+use Rattle.ordered.specs.WritesLaws.{stays-put, state-put}
 use Rattle.tables.specs.Tables.{keptFrom}
 use Rattle.tables.specs.TablesLaws.{kept-more, row-move}
 use Rattle.moves.specs.Steps.{stepOf, stateIn}

@@ -23,7 +23,7 @@ use Rattle.slices.specs.JoinSeenLaws.{OfWidth, length-joinSeen, joinSeen-includ
 use Rattle.slices.specs.TablesBackLaws.{length-numbersAt}
 use Rattle.combos.specs.Restrictions.{restricted}
 use Rattle.combos.specs.RestrictionsLaws.{boundOf, restricted-bound, binds-bound, bound-less, includes-restricted, length-restricted}
-use Rattle.combos.specs.RowsLaws.{tabulate-in}
+use Rattle.ordered.specs.RowsLaws.{tabulate-in}
 
 pub seen-width : (n : ℕ) (t : List ℕ) → OfWidth width (seenRows n t)
 unfolding seenRows

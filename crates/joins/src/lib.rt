@@ -5,7 +5,7 @@ ghost use Rattle.document.specs.Lists.{equal};
 ghost use Rattle.document.specs.Limits.{width};
 ghost use Rattle.document.specs.OneEvent.{joinSeen};
 ghost use Rattle.document.specs.Tables.{seenRows};
-ghost use Rattle.combos.specs.Rows.{SeenInOrder};
+ghost use Rattle.ordered.specs.Rows.{SeenInOrder};
 ghost use Rattle.joins.specs.JoinLaws.{gathered, coversAt, Joins};
 use combos::Combination;
 use combos::WIDTH;
@@ -25,7 +25,7 @@ fn gather(acc: Combination, set: u64, c: Combination, seen: &[u32], n: usize) ->
     if combos::includes(acc, part) {
         return acc;
     }
-    if !combos::seen_holds(seen, n, part) {
+    if !ordered::seen_holds(seen, n, part) {
         return acc;
     }
     combos::join(acc, part)
@@ -58,7 +58,7 @@ fn covers(k: Combination, set: u64, c: Combination, seen: &[u32], n: usize) -> b
     if combos::includes(k, part) {
         return true;
     }
-    !combos::seen_holds(seen, n, part)
+    !ordered::seen_holds(seen, n, part)
 }
 
 // Whether the join of the seen rows that c includes is k, where k is such a join and c includes it: one seen row that c

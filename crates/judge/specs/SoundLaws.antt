@@ -20,7 +20,7 @@ use Rattle.slices.specs.TestsLaws.{so, true-of, same-test}
 use Rattle.slices.specs.SessionLaws.{seenRoom-holds, keptRoom-holds}
 use Rattle.slices.specs.ListsLaws.{map-tabulate}
 use Rattle.slices.specs.TablesLaws.{keptAt}
-use Rattle.combos.specs.Rows.{SeenInOrder}
+use Rattle.ordered.specs.Rows.{SeenInOrder}
 use Rattle.judge.specs.Sound.{rightlyKeptBy, soundBy, sessionOf, rowsOf, Rows}
 use Rattle.judge.specs.RowsLaws.{notEmpty, Passed, passed-stops, passed-turn, passed-ends}
 

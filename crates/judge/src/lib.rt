@@ -9,7 +9,7 @@ ghost use Rattle.document.specs.Positions.{holds};
 ghost use Rattle.document.specs.Combinations.{zeroPast};
 ghost use Rattle.document.specs.Tables.{seenRows, keptRows, seenRoom, keptRoom};
 ghost use Rattle.document.specs.Session.{ascending, zeroBetween};
-ghost use Rattle.combos.specs.Rows.{SeenInOrder};
+ghost use Rattle.ordered.specs.Rows.{SeenInOrder};
 ghost use Rattle.judge.specs.Sound.{rightlyKeptBy, soundBy, sessionOf, rowsOf, Rows};
 ghost use Rattle.judge.specs.RowsLaws.{notEmpty};
 ghost use Rattle.judge.specs.SoundLaws.{seenStands, keptStands};

@@ -17,8 +17,8 @@ use Rattle.document.specs.Tables.{seenRows, keptRows, seenRoom, seenTable, kept
 use Rattle.basics.specs.Tests.{decided}
 use Rattle.slices.specs.OrderLaws.{Ascends, combinations}
 use Rattle.slices.specs.SessionLaws.{seenRoom-holds, keptRoom-holds}
-use Rattle.combos.specs.Rows.{Parted}
-use Rattle.combos.specs.Writes.{SeenInserted, ZeroIn}
+use Rattle.ordered.specs.Rows.{Parted}
+use Rattle.ordered.specs.Writes.{SeenInserted, ZeroIn}
 use Rattle.tables.specs.Tables.{keptFrom}
 use Rattle.tables.specs.TablesLaws.{kept-move, length-keptFrom, length-seenFrom, kept-rows, seen-rows}
 use Rattle.tables.specs.EnterLaws.{seen-entered}

@@ -13,7 +13,7 @@ use Rattle.document.specs.OneEvent.{Kept, insertKept, moves, movedFrom, see, ke
 use Rattle.document.specs.Tables.{seenRows, keptRows, keptRoom, seenRoom}
 use Rattle.slices.specs.OrderLaws.{Ascends, combinations}
 use Rattle.slices.specs.TablesLaws.{keptAt}
-use Rattle.combos.specs.Rows.{SeenInOrder}
+use Rattle.ordered.specs.Rows.{SeenInOrder}
 use Rattle.tables.specs.Tables.{keptFrom}
 use Rattle.moves.specs.Steps.{isNew, inPlace, stepOf, stateIn}
 use Rattle.moves.specs.Ready.{Right, Onward, Binds, Ready, Steady}

@@ -19,7 +19,7 @@ use Rattle.document.specs.Tables.{numbersAt}
 use Rattle.basics.specs.Tests.{decided}
 use Rattle.slices.specs.TablesBackLaws.{length-numbersAt}
 use Rattle.slices.specs.TablesLaws.{keptAt}
-use Rattle.combos.specs.Writes.{Put}
+use Rattle.ordered.specs.Writes.{Put}
 use Rattle.tables.specs.Tables.{keptFrom}
 use Rattle.tables.specs.TablesLaws.{row-move, row-is, kept-move, kept-more, row-in}
 use Rattle.moves.specs.Steps.{stepOf, stateIn}

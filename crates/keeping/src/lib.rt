@@ -32,14 +32,14 @@ fn settle(
     let k = combos::row_at(kept, at);
     let s = kept[at + WIDTH];
     if !combos::includes(k, b) {
-        combos::write_kept(kept, o * KEPT_STRIDE, k, s);
+        ordered::write_kept(kept, o * KEPT_STRIDE, k, s);
         return o + 1;
     }
     let to = moves::next_state(next, s, e);
     if !moves::is_among(known.hopeful, to) {
         return o;
     }
-    combos::write_kept(kept, o * KEPT_STRIDE, k, to);
+    ordered::write_kept(kept, o * KEPT_STRIDE, k, to);
     o + 1
 }
 
@@ -144,11 +144,11 @@ pub fn keep_rows(
 {
     let left = sift(next, known, kept, m, e, b);
     if !fresh {
-        combos::clear(kept, left * KEPT_STRIDE, m * KEPT_STRIDE);
+        ordered::clear(kept, left * KEPT_STRIDE, m * KEPT_STRIDE);
         return;
     }
     let count = grow(next, known, seen, n, kept, left, e, b, fresh);
-    combos::clear(kept, count * KEPT_STRIDE, m * KEPT_STRIDE);
+    ordered::clear(kept, count * KEPT_STRIDE, m * KEPT_STRIDE);
 }
 
 // "Then b is seen".
@@ -159,6 +159,6 @@ pub fn see(seen: &mut [u32], n: usize, b: Combination, fresh: bool)
     if !fresh {
         return;
     }
-    let at = combos::place(seen, 0, SEEN_STRIDE, n, b);
-    combos::insert_seen(seen, n * SEEN_STRIDE, at * SEEN_STRIDE, b);
+    let at = ordered::place(seen, 0, SEEN_STRIDE, n, b);
+    ordered::insert_seen(seen, n * SEEN_STRIDE, at * SEEN_STRIDE, b);
 }

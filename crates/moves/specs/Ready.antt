@@ -11,7 +11,7 @@ use Rattle.document.specs.OneEvent.{Kept, joinSeen, moves}
 use Rattle.document.specs.Tables.{seenRows, seenRoom, keptRoom}
 use Rattle.slices.specs.OrderLaws.{Ascends, combinations}
 use Rattle.slices.specs.TablesLaws.{keptAt}
-use Rattle.combos.specs.Rows.{SeenInOrder}
+use Rattle.ordered.specs.Rows.{SeenInOrder}
 use Rattle.tables.specs.Tables.{keptFrom}
 use Rattle.moves.specs.Steps.{isNew, stepOf}
 

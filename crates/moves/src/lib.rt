@@ -8,7 +8,7 @@ ghost use Rattle.document.specs.Limits.{mostEvents, mostStates};
 ghost use Rattle.document.specs.Positions.{holds};
 ghost use Rattle.document.specs.Combinations.{includes};
 ghost use Rattle.document.specs.Tables.{seenRows};
-ghost use Rattle.combos.specs.Rows.{SeenInOrder};
+ghost use Rattle.ordered.specs.Rows.{SeenInOrder};
 ghost use Rattle.moves.specs.Steps.{one, isNew, stepOf, movesAt};
 ghost use Rattle.moves.specs.Ready.{Binds, Joint};
 use combos::Combination;
@@ -74,7 +74,7 @@ pub fn is_new(b: Combination, seen: &[u32], n: usize) -> bool
     if combos::is_empty(b) {
         return false;
     }
-    !combos::seen_holds(seen, n, b)
+    !ordered::seen_holds(seen, n, b)
 }
 
 // Whether the row of a combination that does not include the binding moves. A binding that is not new creates nothing.

@@ -1,26 +1,18 @@
 -- Document 01, "The program and its example": the call that prints a part of a log held in memory into a lent text. It goes on
 -- only while the next row's lines are sure to fit, and says from where the next call goes on.
 -- Assumes nothing.
-use Prim.Native.Nat.{ℕ, zero, suc, _+_, _*_, _^_}
-use mathlib.Core.Bool.{Bool, true, false, not, cond, _&&_}
+use Prim.Native.Nat.{ℕ, zero, suc, _+_}
+use mathlib.Core.Bool.{true, false, not, _&&_}
 use mathlib.Core.List.{List}
 use lib.ListN.{length}
-use lib.Dec.{eqb, leb, ltb}
+use lib.Dec.{leb, ltb}
 use Rattle.document.specs.Refusals.{offsetPastLog, Answer, taken, refused, refuseIf, andThen}
 use Rattle.document.specs.Declarations.{Declared}
 use Rattle.document.specs.Property.{Property}
 use Rattle.document.specs.Session.{Session, leaves}
 use Rattle.document.specs.Log.{stepRow, rowAt, nextAt, judged}
-use Rattle.lines.specs.Lines.{mostLine}
 use Rattle.runs.specs.PrintPart.{rowText, PrintedTo, nothingPrinted, linesFirst}
-
--- lines that a row can have at most: an event reports at most as many rows as are kept, and a refused row has one line
-unfoldable pub mostLines : ℕ → ℕ
-mostLines kept = cond (eqb kept 0) 1 kept
-
--- the next row's lines are sure to fit in what is left of the room, and the number after its own is one of 64 bits
-unfoldable pub fitsRow : ℕ → ℕ → ℕ → ℕ → Bool
-fitsRow room filled kept number = ltb (number + 1) (2 ^ 64) && leb (filled + mostLines kept * mostLine) room
+use Rattle.rowlines.specs.RowLines.{fitsRow}
 
 -- rows from the offset `at` on, the first of them numbered n, with so many bytes of the room filled: up to the log's end, or
 -- before a row whose lines might not fit. There are no more rows than the log has bytes, so that is turns enough.

@@ -20,7 +20,8 @@ use Rattle.rows.specs.TextLaws.{rows-over}
 use Rattle.rows.specs.RunsOfRows.{passes-cut}
 use Rattle.runs.specs.PrintPart.{rowText, PrintedTo, nothingPrinted, linesFirst, printFrom}
 use Rattle.runs.specs.PrintLaws.{print-row, print-append, prints}
-use Rattle.printing.specs.Printing.{fitsRow, printRows}
+use Rattle.rowlines.specs.RowLines.{fitsRow}
+use Rattle.printing.specs.Printing.{printRows}
 
 -- no row left, or none whose lines are sure to fit
 module _ (d : Declared) (p : Property) (log : List ℕ) (turns at n : ℕ) (s : Session) (reports : List ℕ) (room filled : ℕ) where

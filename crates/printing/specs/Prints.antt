@@ -2,11 +2,9 @@
 -- Assumes nothing.
 use Prim.Native.Nat.{ℕ, _+_, _-_, _*_, _^_, _<_, _≤_}
 use mathlib.Core.Path.{_≡_}
-use mathlib.Core.Bool.{true, cond}
+use mathlib.Core.Bool.{true}
 use mathlib.Core.List.{List, _++_}
 use lib.ListN.{length, drop}
-use lib.Dec.{eqb}
-use Rattle.document.specs.Limits.{width, reportStride}
 use Rattle.document.specs.Refusals.{Answer, taken, refused}
 use Rattle.document.specs.Declarations.{Declared}
 use Rattle.document.specs.Property.{Property}
@@ -15,11 +13,11 @@ use Rattle.document.specs.Log.{nextAt}
 use Rattle.document.specs.Printing.{reportLines, refusedLine}
 use Rattle.judge.specs.Sound.{sessionOf}
 use Rattle.decimals.specs.Written.{Written}
-use Rattle.lines.specs.Lines.{refusedNumberLine, mostLine}
+use Rattle.lines.specs.Lines.{mostLine}
 use Rattle.runs.specs.PrintPart.{PrintedTo, linesFirst}
-use Rattle.steps.specs.declared.Answered.{Answered}
+use Rattle.rowlines.specs.RowLines.{mostLines}
 use Rattle.printing.specs.declared.Printed.{Printed}
-use Rattle.printing.specs.Printing.{mostLines, printRows}
+use Rattle.printing.specs.Printing.{printRows}
 
 -- The call -------------------------------------------------------------------------------------------------------------
 
@@ -44,21 +42,10 @@ pub record PrintLeaves (refusal : ℕ) (x : PrintedTo) (text : List ℕ) (r : Pr
 
 -- One row --------------------------------------------------------------------------------------------------------------
 
--- the lines of row n by what its step answered, as the document says them and by the code's values
+-- the lines of row n by what its step answered
 abbrev pub rowTextBy : ℕ → ℕ → Answer Happened → List ℕ
 rowTextBy parameters n (taken h) = reportLines parameters n (h .reported) (h .reports)
 rowTextBy parameters n (refused q o) = refusedLine parameters n q
-
-unfoldable pub answerText : ℕ → ℕ → List ℕ → Answered → List ℕ
-answerText parameters n reports a =
-    cond (eqb (a .refusal) 0) (reportLines parameters n (a .reported) reports) (refusedNumberLine parameters n (a .refusal))
-
--- a row's lines fit in the text, and its reports lie in the numbers lent
-pub record TextFits (at parameters : ℕ) (text reports : List ℕ) (a : Answered) : Type 0 where
-  pub few : parameters ≤ width
-  pub line : at + mostLine ≤ length text
-  pub lines : at + a .reported * mostLine ≤ length text
-  pub inside : a .reported * reportStride ≤ length reports
 
 -- one row more can be printed: there is one, its lines fit, and a number can follow its own
 pub record RowFits (r : Printed) (log text : List ℕ) : Type 0 where

@@ -2,13 +2,12 @@
 -- Assumes nothing.
 use Prim.Native.Nat.{ℕ, _+_, _-_, _*_, _^_, _≤_, _<_}
 use mathlib.Core.Path.{_≡_, refl, sym, ap, _∙_}
-use mathlib.Core.Logic.{inl, inr}
 use mathlib.Core.Bool.{Bool, true, false, not}
 use mathlib.Core.List.{List}
 use native.Mathlib.Omega.{arith}
 use lib.ListN.{length, take, drop}
-use lib.Dec.{eqb, leb, ltb}
-use borrow.Author.Tests.{eq-eqb, ne-eqb, eqb-true, eqb-false, lt-ltb, le-ltb, leb-true, ltb-true, not-false}
+use lib.Dec.{leb, ltb}
+use borrow.Author.Tests.{ne-eqb, leb-true, ltb-true, not-false}
 use Rattle.document.specs.Limits.{width}
 use Rattle.document.specs.Refusals.{number, noRoomForSeen, noRoomForKept, noRoomForReports, Answer, taken, refused, refuseIf}
 use Rattle.document.specs.RefusalsLaws.{number-some}
@@ -17,8 +16,6 @@ use Rattle.document.specs.Tables.{seenRoom, keptRoom, reportRoom, keptRows}
 use Rattle.document.specs.Declarations.{Declared}
 use Rattle.document.specs.Session.{Session, Happened, seenOf, keptOf, leaves}
 use Rattle.document.specs.Log.{rowEvent, rowAt, nextAt}
-use Rattle.document.specs.Printing.{reportLines}
-use Rattle.basics.specs.Tests.{decided}
 use Rattle.basics.specs.Lists.{length-tabulate}
 use Rattle.basics.specs.Answers.{past-test, past-call, taken-one}
 use Rattle.reader.specs.HandingLaws.{next-at-end}
@@ -26,7 +23,7 @@ use Rattle.slices.specs.TestsLaws.{so, true-of, and-of}
 use Rattle.slices.specs.MovesLaws.{length-reportsAfter}
 use Rattle.judge.specs.Sound.{sessionOf}
 use Rattle.decimals.specs.Written.{Written}
-use Rattle.lines.specs.Lines.{refusedNumberLine, mostLine}
+use Rattle.lines.specs.Lines.{mostLine}
 use Rattle.lines.specs.LinesLaws.{refused-line-number}
 use Rattle.moves.specs.Steps.{stepOf, stateIn, outcomeBy}
 use Rattle.steps.specs.declared.Answered.{Answered}
@@ -35,38 +32,9 @@ use Rattle.writing.specs.Writing.{writtenBy}
 use Rattle.turns.specs.Stepping.{rowStepBy}
 use Rattle.turns.specs.TurnsLaws.{row-is, row-room}
 use Rattle.printing.specs.declared.Printed.{Printed}
-use Rattle.printing.specs.Printing.{mostLines, fitsRow}
-use Rattle.printing.specs.Prints.{rowTextBy, answerText, TextFits, RowFits, RowPrinted}
-
--- Room -----------------------------------------------------------------------------------------------------------------
-
-pub most-one : (kept : ℕ) → kept ≡ 0 → 1 ≡ mostLines kept
-unfolding mostLines
-most-one kept e = rw (eq-eqb kept 0 e)
-
-pub most-kept : (kept : ℕ) → (kept ≡ 0 → ⊥) → kept ≡ mostLines kept
-unfolding mostLines
-most-kept kept e = rw (ne-eqb kept 0 e)
-
--- it is enough for a line, and for one of each kept row
-lines-enough : (kept : ℕ) → (1 ≤ mostLines kept) × (kept ≤ mostLines kept)
-unfolding mostLines
-lines-enough kept = elim (decided (eqb kept 0)) [
-  | inl e ↦ let z = eqb-true kept 0 e in rw e (omega arith, omega arith)
-  | inr e ↦ let z = eqb-false kept 0 e in rw e (some z, omega arith)
-]
-  where
-    some : (kept ≡ 0 → ⊥) → 1 ≤ kept
-    some z = omega arith
-
-pub fits-last : (room filled kept number : ℕ) → number ≡ 2 ^ 64 - 1 → false ≡ fitsRow room filled kept number
-unfolding fitsRow
-fits-last room filled kept number e = rw (le-ltb (number + 1) (2 ^ 64) (omega arith))
-
-pub fits-room : (room filled kept number most : ℕ) (f : Bool) → number < 2 ^ 64 → (number ≡ 2 ^ 64 - 1 → ⊥) → most ≡ mostLines kept
-    → f ≡ leb (filled + most * mostLine) room → f ≡ fitsRow room filled kept number
-unfolding fitsRow
-fits-room room filled kept number most f h z e q = q ∙ rw (e, lt-ltb (number + 1) (2 ^ 64) (omega arith))
+use Rattle.rowlines.specs.RowLines.{mostLines, fitsRow, answerText, TextFits}
+use Rattle.rowlines.specs.RowLinesLaws.{lines-enough}
+use Rattle.printing.specs.Prints.{rowTextBy, RowFits, RowPrinted}
 
 pub row-fits : (r : Printed) (log text : List ℕ) (f : Bool) → r .next < length log → f ≡ fitsRow (length text) (r .filled) (r .kept) (r .number)
     → not f ≡ false → RowFits r log text
@@ -79,23 +47,6 @@ row-fits r log text f h q z =
       fits = leb-true (r .filled + mostLines (r .kept) * mostLine) (length text) (true-of _ (a .1));
       few = ltb-true (r .number + 1) (2 ^ 64) (true-of _ (a .0));
     }
-
--- The lines of a row by its step's answer --------------------------------------------------------------------------------
-
-pub written-tight : (at most k : ℕ) (x t t′ : List ℕ) → Written at most x t t′ k → Written at (length x) x t t′ k
-written-tight at most k x t t′ w = record { text = w .text; ends = w .ends; fits = w .fits; few = omega arith }
-
-pub text-refused : (at parameters n : ℕ) (reports : List ℕ) (a : Answered) (t t′ : List ℕ) (k : ℕ) → (a .refusal ≡ 0 → ⊥)
-    → Written at mostLine (refusedNumberLine parameters n (a .refusal)) t t′ k
-    → Written at (length (answerText parameters n reports a)) (answerText parameters n reports a) t t′ k
-unfolding answerText
-text-refused at parameters n reports a t t′ k z w = rw (ne-eqb (a .refusal) 0 z) (written-tight at mostLine k _ t t′ w)
-
-pub text-reports : (at parameters n : ℕ) (reports : List ℕ) (a : Answered) (t t′ : List ℕ) (k : ℕ) → a .refusal ≡ 0
-    → Written at (a .reported * mostLine) (reportLines parameters n (a .reported) reports) t t′ k
-    → Written at (length (answerText parameters n reports a)) (answerText parameters n reports a) t t′ k
-unfolding answerText
-text-reports at parameters n reports a t t′ k z w = rw (eq-eqb (a .refusal) 0 z) (written-tight at (a .reported * mostLine) k _ t t′ w)
 
 -- Few reports ------------------------------------------------------------------------------------------------------------
 

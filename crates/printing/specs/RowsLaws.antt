@@ -21,11 +21,12 @@ use Rattle.runs.specs.PrintPart.{rowText, PrintedTo, nothingPrinted, linesFirst
 use Rattle.runs.specs.SoundRuns.{row-sound}
 use Rattle.turns.specs.Stepping.{rowStepBy, RowGoes, readAs, Sure}
 use Rattle.turns.specs.SureLaws.{row-step-same, row-goes}
+use Rattle.rowlines.specs.RowLines.{fitsRow}
+use Rattle.rowlines.specs.RowLinesLaws.{written-tight}
 use Rattle.printing.specs.declared.Printed.{Printed}
-use Rattle.printing.specs.Printing.{fitsRow, printRows}
+use Rattle.printing.specs.Printing.{printRows}
 use Rattle.printing.specs.Prints.{printedOf, PrintLeaves, rowTextBy, RowPrinted, OnTheWay}
 use Rattle.printing.specs.PrintingLaws.{rows-ended, rows-full, rows-row}
-use Rattle.printing.specs.RowLaws.{written-tight}
 
 -- Over declarations and a property ---------------------------------------------------------------------------------------
 

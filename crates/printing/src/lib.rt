@@ -2,7 +2,7 @@
 // into a lent text.
 // The face: `print`, which takes every input, judges it in the order of the refusals, and on a refusal leaves every lent number
 // and byte as it was. It stops at the log's end, or before a row whose lines might not fit in the text: the caller writes the
-// text away and calls again with the offset, the row number and the counts answered. It leans on `log` and `lines`.
+// text away and calls again with the offset, the row number and the counts answered. It leans on `turns` and `rowlines`.
 //
 //     print(declarations, p, &mut seen, n, &mut kept, m, &mut reports, log, at, 1, &mut text) prints the rows from `at` on.
 ghost use mathlib.Core.Path.{_≡_};
@@ -14,17 +14,12 @@ ghost use Rattle.document.specs.Log.{rowAt};
 ghost use Rattle.property.specs.Meaning.{meaning};
 ghost use Rattle.judge.specs.Sound.{sessionOf};
 ghost use Rattle.entries.specs.Entries.{declaredAt};
-ghost use Rattle.decimals.specs.Written.{Written};
 ghost use Rattle.turns.specs.Stepping.{rowStepBy, RowGoes, readAs, Sure};
-ghost use Rattle.printing.specs.Printing.{mostLines, fitsRow, printRows, printCall, printsTo};
-ghost use Rattle.printing.specs.Prints.{answerText, PrintLeaves, TextFits, RowFits, RowPrinted};
+ghost use Rattle.printing.specs.Printing.{printRows, printCall, printsTo};
+ghost use Rattle.printing.specs.Prints.{PrintLeaves, RowFits, RowPrinted};
 use moves::Known;
 use property::Property;
 use readings::Reading;
-use steps::Answered;
-
-// The number of a row that none can follow in 64 bits.
-const LAST_NUMBER: usize = 18446744073709551615;
 
 // What printing answers: the number of refusal, or 0; the offset and the number of the row that comes next; the rows of both
 // tables that count now; and the bytes of the text that are filled.
@@ -57,47 +52,7 @@ fn printed_to(
     }
 }
 
-// Room ------------------------------------------------------------------------------------------------------------------
-
-// Lines that a row can have at most: a report for each kept row, or that it is refused.
-fn most_lines(kept: usize) -> usize
-    ensures { λ r. ⌜ r ≡ mostLines kept ⌝ }
-{
-    if kept == 0 {
-        return 1;
-    }
-    kept
-}
-
-// Whether the lines of one row more are sure to fit, and a number for the row after it.
-fn row_fits(room: usize, filled: usize, kept: usize, number: usize) -> bool
-    ensures { λ r. ⌜ r ≡ fitsRow room filled kept number ⌝ }
-{
-    if number == LAST_NUMBER {
-        return false;
-    }
-    lines::lines_fit(room, filled, most_lines(kept))
-}
-
-// One row ---------------------------------------------------------------------------------------------------------------
-
-// Writes the lines of a row by what its step answered.
-fn put_row(
-    text: &mut [u8],
-    at: usize,
-    parameters: usize,
-    number: usize,
-    reports: &[u32],
-    a: Answered,
-) -> usize
-    requires { ⌜ TextFits at parameters (now text) (now reports) a ⌝ }
-    ensures { λ r. ⌜ Written at (length (answerText parameters number (now (reports .entry)) a)) (answerText parameters number (now (reports .entry)) a) (now (text .entry)) (now (text .exit)) r ⌝ }
-{
-    if a.refusal != refusals::TAKEN {
-        return lines::put_refused(text, at, parameters, number, a.refusal);
-    }
-    lines::put_reports(text, at, parameters, number, reports, a.reported)
-}
+// One row ----------------------------------------------------------------------------------------------------------------
 
 // Takes the row at the next offset, and writes its lines where those before it end.
 fn print_row<'a, 'b, 'c>(
@@ -138,7 +93,7 @@ fn print_row<'a, 'b, 'c>(
         0,
         &log[place..end],
     );
-    let filled = put_row(text, r.filled, known.parameters, r.number, reports, a);
+    let filled = rowlines::put_row(text, r.filled, known.parameters, r.number, reports, a);
     let after = rows::next_row(log, end);
     printed_to(refusals::TAKEN, after, r.number + 1, a.seen, a.kept, filled)
 }
@@ -172,7 +127,7 @@ fn print_rows<'a, 'b>(
     let verdicts = p.verdicts;
     let mut r = printed_to(refusals::TAKEN, at, number, n, m, 0);
     while r.next < log.len() {
-        if !row_fits(text.len(), r.filled, r.kept, r.number) {
+        if !rowlines::row_fits(text.len(), r.filled, r.kept, r.number) {
             return r;
         }
         let after = print_row(

@@ -26,9 +26,9 @@ use Rattle.slices.specs.TestsLaws.{so, not-so, true-of, equal-of, of-equal}
 use Rattle.slices.specs.ListsLaws.{map-in}
 use Rattle.slices.specs.OrderLaws.{precedes-irrefl, Ascends, combinations}
 use Rattle.slices.specs.TablesLaws.{keptAt}
-use Rattle.combos.specs.Rows.{SeenInOrder, Searchable, Parted}
-use Rattle.combos.specs.RowsLaws.{ascends-at, tabulate-in}
-use Rattle.combos.specs.Writes.{ZeroIn}
+use Rattle.ordered.specs.Rows.{SeenInOrder, Searchable, Parted}
+use Rattle.ordered.specs.RowsLaws.{ascends-at, tabulate-in}
+use Rattle.ordered.specs.Writes.{ZeroIn}
 use Rattle.property.specs.Meaning.{Hopes}
 use Rattle.judge.specs.Sound.{soundBy, sessionOf}
 use Rattle.tables.specs.Tables.{keptFrom, seenFrom}

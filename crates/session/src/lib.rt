@@ -95,8 +95,8 @@ pub fn start(p: Property, seen: &mut [u32], kept: &mut [u32]) -> Answered
     if room < first {
         return counts_alone(refusals::NO_ROOM_FOR_KEPT, 0, 0);
     }
-    combos::clear(seen, 0, judge::seen_room(seen) * SEEN_STRIDE);
-    combos::clear(kept, 0, room * KEPT_STRIDE);
+    ordered::clear(seen, 0, judge::seen_room(seen) * SEEN_STRIDE);
+    ordered::clear(kept, 0, room * KEPT_STRIDE);
     counts_alone(refusals::TAKEN, 0, first)
 }
 
@@ -117,7 +117,7 @@ fn find_kept(verdicts: &[u8; 64], kept: &[u32], m: usize, c: Combination) -> Loo
     requires { ⌜ Findable m (now kept) ⌝ }
     ensures { λ r. ⌜ r ≡ foundBy (now (verdicts .entry)) c (keptRows m (now (kept .entry))) ⌝ }
 {
-    let at = combos::place(kept, 0, KEPT_STRIDE, m, c);
+    let at = ordered::place(kept, 0, KEPT_STRIDE, m, c);
     if m <= at {
         return nothing_held(refusals::TAKEN);
     }

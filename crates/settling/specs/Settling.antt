@@ -10,7 +10,7 @@ use Rattle.document.specs.Lists.{consIf}
 use Rattle.document.specs.Limits.{width, keptStride}
 use Rattle.document.specs.Positions.{holds}
 use Rattle.document.specs.Tables.{numbersAt}
-use Rattle.combos.specs.Writes.{Put}
+use Rattle.ordered.specs.Writes.{Put}
 use Rattle.tables.specs.Tables.{keptFrom}
 
 -- a row that moves to a state is reported after `count` reports, if the verdict is asked for; there are r reports then

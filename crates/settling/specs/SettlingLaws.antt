@@ -21,8 +21,8 @@ use Rattle.basics.specs.Tests.{decided}
 use Rattle.slices.specs.TestsLaws.{so, not-so}
 use Rattle.slices.specs.TablesBackLaws.{length-numbersAt}
 use Rattle.combos.specs.NumbersLaws.{getD-numbersAt, Included, included-begins, included-stops, included-turn}
-use Rattle.combos.specs.Writes.{Put}
-use Rattle.combos.specs.WritesLaws.{state-put}
+use Rattle.ordered.specs.Writes.{Put}
+use Rattle.ordered.specs.WritesLaws.{state-put}
 use Rattle.tables.specs.TablesLaws.{row-is, kept-move, kept-more}
 use Rattle.settling.specs.Settling.{ToldRow, MovedRow, Lowered}
 

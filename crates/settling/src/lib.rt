@@ -9,7 +9,7 @@ ghost use lib.Dec.{eqb};
 ghost use Rattle.document.specs.Limits.{width, keptStride, mostStates};
 ghost use Rattle.document.specs.Combinations.{includes};
 ghost use Rattle.document.specs.Tables.{numbersAt};
-ghost use Rattle.combos.specs.Writes.{Put};
+ghost use Rattle.ordered.specs.Writes.{Put};
 ghost use Rattle.settling.specs.Settling.{ToldRow, MovedRow, Lowered};
 use combos::Combination;
 use combos::KEPT_STRIDE;
@@ -71,7 +71,7 @@ pub fn tell(
     }
     let state = moves::wide(to);
     let verdict = moves::number(verdicts[state]);
-    combos::write_kept(
+    ordered::write_kept(
         reports,
         from + count * KEPT_STRIDE,
         combos::row_at(kept, at),
@@ -93,7 +93,7 @@ pub fn settle(hopeful: u64, kept: &mut [u32], i: usize, o: usize, to: u32) -> us
         kept[at + WIDTH] = to;
         return o + 1;
     }
-    combos::write_kept(kept, o * KEPT_STRIDE, combos::row_at(kept, at), to);
+    ordered::write_kept(kept, o * KEPT_STRIDE, combos::row_at(kept, at), to);
     o + 1
 }
 
@@ -107,7 +107,7 @@ pub fn stay(kept: &mut [u32], i: usize, o: usize)
     }
     let at = i * KEPT_STRIDE;
     let state = kept[at + WIDTH];
-    combos::write_kept(kept, o * KEPT_STRIDE, combos::row_at(kept, at), state);
+    ordered::write_kept(kept, o * KEPT_STRIDE, combos::row_at(kept, at), state);
 }
 
 // The rows after the last ----------------------------------------------------------------------------------------------

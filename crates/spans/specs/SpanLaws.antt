@@ -15,7 +15,7 @@ use Rattle.document.specs.Tables.{numbersAt}
 use Rattle.slices.specs.OrderLaws.{precedes-of, Ascends, combinations}
 use Rattle.slices.specs.TablesLaws.{keptAt}
 use Rattle.tables.specs.TablesLaws.{kept-tabulated, combinations-tabulated}
-use Rattle.combos.specs.RowsLaws.{ascends-at}
+use Rattle.ordered.specs.RowsLaws.{ascends-at}
 use Rattle.spans.specs.Spans.{Rising, Begins, Ends, Spans, Movable}
 use Rattle.spans.specs.AgreeLaws.{apart}
 

@@ -14,9 +14,9 @@ use Rattle.document.specs.Tables.{numbersAt}
 use Rattle.slices.specs.TestsLaws.{true-of}
 use Rattle.slices.specs.OrderLaws.{Ascends, combinations, insertKept-after, insertKept-here, insertSeen-after, insertSeen-here}
 use Rattle.slices.specs.TablesLaws.{keptAt}
-use Rattle.combos.specs.Rows.{Searchable, Parted}
-use Rattle.combos.specs.RowsLaws.{ascends-at}
-use Rattle.combos.specs.Writes.{SeenInserted, Inserted}
+use Rattle.ordered.specs.Rows.{Searchable, Parted}
+use Rattle.ordered.specs.RowsLaws.{ascends-at}
+use Rattle.ordered.specs.Writes.{SeenInserted, Inserted}
 use Rattle.tables.specs.Tables.{keptFrom, seenFrom, Enterable, Entered}
 use Rattle.tables.specs.TablesLaws.{numbers-move, row-move, row-is, kept-move, seen-move, kept-tabulated, combinations-tabulated}
 

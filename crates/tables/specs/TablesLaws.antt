@@ -16,7 +16,7 @@ use Rattle.slices.specs.OrderLaws.{combinations}
 use Rattle.slices.specs.TablesBackLaws.{length-numbersAt}
 use Rattle.slices.specs.TablesLaws.{keptAt}
 use Rattle.combos.specs.NumbersLaws.{getD-numbersAt}
-use Rattle.combos.specs.RowsLaws.{in-tabulate}
+use Rattle.ordered.specs.RowsLaws.{in-tabulate}
 use Rattle.tables.specs.Tables.{keptFrom, seenFrom}
 
 -- Rows moved -----------------------------------------------------------------------------------------------------------

@@ -9,6 +9,6 @@ pub fn enter(t: &mut [u32], base: usize, n: usize, c: Combination, s: u32)
     requires { ⌜ Enterable base n (now t) ⌝ }
     ensures { λ _. ⌜ Entered base n c s (now (t .entry)) (now (t .exit)) ⌝ }
 {
-    let at = combos::place(t, base, KEPT_STRIDE, n, c);
-    combos::insert_kept(t, base + n * KEPT_STRIDE, base + at * KEPT_STRIDE, c, s);
+    let at = ordered::place(t, base, KEPT_STRIDE, n, c);
+    ordered::insert_kept(t, base + n * KEPT_STRIDE, base + at * KEPT_STRIDE, c, s);
 }

@@ -1,7 +1,7 @@
 -- `joins::join_seen` meets its contract: the join so far includes each seen row whose set was looked up.
 -- Assumes nothing.
 use Rattle.joins.specs.JoinLaws.{Gathered, gathered-begins, gathered-turn, gathered-ends}
-use Rattle.combos.specs.Rows.{SeenInOrder}
+use Rattle.ordered.specs.Rows.{SeenInOrder}
 use Prim.Native.Nat.{_-_}
 use borrow.Author.Needs.{needs}
 use Rattle.joins.proofs.join_seen.Statement.{statement}

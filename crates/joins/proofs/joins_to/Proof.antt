@@ -1,7 +1,7 @@
 -- `joins::joins_to` meets its contract: k includes each seen row that c includes and whose set was looked up.
 -- Assumes nothing.
 use Rattle.joins.specs.JoinLaws.{Covered, covered-begins, covered-turn, covered-stops, covered-ends}
-use Rattle.combos.specs.Rows.{SeenInOrder}
+use Rattle.ordered.specs.Rows.{SeenInOrder}
 use Prim.Native.Nat.{_-_}
 use borrow.Author.Needs.{needs}
 use Rattle.joins.proofs.joins_to.Statement.{statement}

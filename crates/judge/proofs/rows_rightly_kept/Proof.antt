@@ -3,7 +3,7 @@
 use Rattle.judge.specs.SoundLaws.{keptOfRow, kept-stops, kept-turn, kept-ends}
 use Rattle.judge.specs.RowsLaws.{Passed, passed-begins}
 use Rattle.document.specs.Limits.{keptStride, mostStates}
-use Rattle.combos.specs.Rows.{SeenInOrder}
+use Rattle.ordered.specs.Rows.{SeenInOrder}
 use Rattle.document.specs.Positions.{holds}
 use Rattle.document.specs.Tables.{seenRows}
 use Rattle.judge.specs.Sound.{rightlyKeptBy}

@@ -2,7 +2,7 @@
 -- Assumes nothing.
 use native.Mathlib.Omega.{arith}
 use Rattle.keeping.specs.KeepLaws.{seen-written-old, seen-insertable, seen-written-new}
-use Rattle.combos.specs.RowsLaws.{seen-searchable}
+use Rattle.ordered.specs.RowsLaws.{seen-searchable}
 use Prim.Native.Nat.{_-_}
 use borrow.Author.Needs.{needs}
 use Rattle.keeping.proofs.see.Statement.{statement}

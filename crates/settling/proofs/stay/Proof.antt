@@ -1,6 +1,6 @@
 -- `settling::stay` meets its contract: the row stands there already, or it is written there.
 -- Assumes nothing.
-use Rattle.combos.specs.WritesLaws.{stays-put}
+use Rattle.ordered.specs.WritesLaws.{stays-put}
 use Rattle.settling.specs.SettlingLaws.{row-stays}
 use borrow.Author.Needs.{needs}
 use Rattle.settling.proofs.stay.Statement.{statement}

@@ -1,0 +1,4 @@
+pub mod Rows
+pub mod RowsLaws
+pub mod Writes
+pub mod WritesLaws
