@@ -12,6 +12,8 @@ use crate::make::texts::{any_declarations, any_row, declarations, log, Declared}
 const BUFFER: usize = 65_536;
 /// The most bytes of a text that is taken.
 const TEXT_LIMIT: usize = 4_096;
+/// The most bytes of a row that is taken.
+const ROW_LIMIT: usize = 128;
 
 /// The three files of a folder; a missing one is not written.
 pub struct Folder {
@@ -83,6 +85,8 @@ fn whole_log(rng: &mut Rng, declared: &Declared, size: Size) -> Vec<u8> {
     }
     if rng.chance(98) {
         text.extend(b"\r\n");
+    } else if rng.chance(50) {
+        return text;
     }
     let (rows, values) = match size {
         Size::Small => (rng.below(30), rng.between(1, 3)),
@@ -114,7 +118,8 @@ fn padded(rng: &mut Rng, mut text: Vec<u8>, with: u8) -> Vec<u8> {
 }
 
 /// A log whose rows end just before, at or after places where a buffer may end. A row may be longer than a buffer, and hold CR and LF
-/// there; the header too, now and then.
+/// there; the header too, now and then. A row of about the longest size may end where the first buffer does, and an empty row stand
+/// between two that are longer than a buffer.
 fn edges(rng: &mut Rng, declared: &Declared) -> Vec<u8> {
     let mut text = declared.header().into_bytes();
     if rng.chance(5) {
@@ -122,8 +127,17 @@ fn edges(rng: &mut Rng, declared: &Declared) -> Vec<u8> {
         fill(rng, &mut text, end);
     }
     text.extend(b"\r\n");
+    if rng.chance(20) {
+        row_at_the_first_buffers_end(rng, declared, &mut text);
+    }
     let values = rng.between(1, 4);
     for _ in 0..rng.between(1, 4) {
+        if rng.chance(10) {
+            for _ in 0..2 {
+                text.extend(vec![b'x'; rng.between(BUFFER, 2 * BUFFER)]);
+                text.extend(b"\r\n\r\n");
+            }
+        }
         for _ in 0..*rng.pick(&[0, 1, 20, 3_000, 6_000]) {
             text.extend(any_row(rng, declared, values));
             text.extend(b"\r\n");
@@ -144,6 +158,20 @@ fn edges(rng: &mut Rng, declared: &Declared) -> Vec<u8> {
         text.extend(log(rng, declared, 5, values));
     }
     text
+}
+
+/// Rows up to one of about the longest size, with the CR of its line end about where the first buffer ends. It has as many fields as
+/// a row must, so that its size decides what it is refused for.
+fn row_at_the_first_buffers_end(rng: &mut Rng, declared: &Declared, text: &mut Vec<u8>) {
+    let row = *rng.pick(&[ROW_LIMIT - 1, ROW_LIMIT, ROW_LIMIT, ROW_LIMIT + 1]);
+    let start = BUFFER - row - *rng.pick(&[0, 1, 1, 2]);
+    rows_up_to(rng, declared, start - 2 * ROW_LIMIT, text);
+    text.resize(start - 2, b'x');
+    text.extend(b"\r\n");
+    let commas = declared.header().matches(',').count();
+    text.extend(vec![b'x'; row - commas]);
+    text.extend(vec![b','; commas]);
+    text.extend(b"\r\n");
 }
 
 /// A place a few bytes before or after a multiple of a buffer's size, past `from`.
