@@ -11,9 +11,11 @@ ghost use Rattle.document.specs.Tables.{seenRows, reportRoom};
 ghost use Rattle.ordered.specs.Rows.{SeenInOrder};
 ghost use Rattle.moves.specs.Steps.{isNew};
 ghost use Rattle.advance.specs.Advancing.{Advanceable, Passable, PassesOn, AdvancesOn, Advances};
-use combos::Combination;
-use combos::KEPT_STRIDE;
-use combos::WIDTH;
+use limits::Combination;
+use limits::KEPT_STRIDE;
+use limits::Transitions;
+use limits::Verdicts;
+use limits::WIDTH;
 use moves::Known;
 
 // Where a pass over the kept rows ended: the row that it stopped before, how many of the rows before that are left, and the
@@ -52,8 +54,8 @@ pub fn applies(
 
 // Every row from row `low` on that may include the binding: those before it are moved already.
 fn pass(
-    next: &[u8; 1024],
-    verdicts: &[u8; 64],
+    next: &Transitions,
+    verdicts: &Verdicts,
     known: Known,
     kept: &mut [u32],
     m: usize,
@@ -99,8 +101,8 @@ fn pass(
 
 // The rows from row `low` on, and those past the last that may include the binding: they move down by as many as were dropped.
 fn pass_on(
-    next: &[u8; 1024],
-    verdicts: &[u8; 64],
+    next: &Transitions,
+    verdicts: &Verdicts,
     known: Known,
     kept: &mut [u32],
     m: usize,
@@ -131,8 +133,8 @@ fn pass_on(
 
 // The kept rows after an event that creates nothing, and its reports from a report number on.
 pub fn advance(
-    next: &[u8; 1024],
-    verdicts: &[u8; 64],
+    next: &Transitions,
+    verdicts: &Verdicts,
     known: Known,
     kept: &mut [u32],
     m: usize,

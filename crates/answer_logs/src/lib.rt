@@ -254,7 +254,7 @@ fn is_of_row(refusal: u8) -> bool {
 
 // Writes the line of the last row, which was refused, into a text, and answers how many bytes it has; 0 if there is no room.
 fn put_refusal(m: Memory, number: usize, text: &mut [u8]) -> usize {
-    if property::WIDTH < m.row_parameters {
+    if limits::WIDTH < m.row_parameters {
         return 0;
     }
     if text.len() < lines::MOST_LINE {
@@ -265,10 +265,10 @@ fn put_refusal(m: Memory, number: usize, text: &mut [u8]) -> usize {
 
 // Writes a line for each report of the last row. One that no line is printed of has none.
 fn put_reports(m: Memory, of_row: &[u32], number: usize, text: &mut [u8]) -> usize {
-    if property::WIDTH < m.row_parameters {
+    if limits::WIDTH < m.row_parameters {
         return 0;
     }
-    if of_row.len() / lines::REPORT_STRIDE < m.row_reports {
+    if of_row.len() / limits::REPORT_STRIDE < m.row_reports {
         return 0;
     }
     if text.len() / lines::MOST_LINE < m.row_reports {

@@ -7,6 +7,8 @@ use batch::told::Told;
 use batch::told::refused;
 use batch::told::stuck;
 use batch::write;
+use limits::Transitions;
+use limits::Verdicts;
 use property::Property;
 
 fn wide(n: u32) -> usize
@@ -120,15 +122,15 @@ fn events_at(s: &[u8], at: usize) -> Events {
 }
 
 // The state that an event leads to.
-fn state_after(next: &[u8; 1024], state: u8, event: u32) -> u8 {
-    let at = wide(from_byte(state)) * property::MOST_EVENTS + wide(event);
+fn state_after(next: &Transitions, state: u8, event: u32) -> u8 {
+    let at = wide(from_byte(state)) * limits::MOST_EVENTS + wide(event);
     if 1024 <= at {
         return 0;
     }
     next[at]
 }
 
-fn verdict_of(verdicts: &[u8; 64], state: u8) -> u32 {
+fn verdict_of(verdicts: &Verdicts, state: u8) -> u32 {
     let at = wide(from_byte(state));
     if 64 <= at {
         return 0;

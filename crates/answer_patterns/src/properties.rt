@@ -4,6 +4,9 @@ use batch::told::Told;
 use batch::told::refused;
 use batch::told::stuck;
 use batch::write;
+use limits::MOST_EVENTS;
+use limits::MOST_STATES;
+use limits::TRANSITIONS;
 use property::Property;
 
 // A property that was read, and the place after it.
@@ -23,11 +26,11 @@ pub fn table(s: &[u8], at: usize) -> Tabled {
     let events = read::number(s, parameters.next);
     let states = read::number(s, events.next);
     let asked = read::number(s, states.next);
-    let mut sets = [0u8; 16];
+    let mut sets = [0u8; MOST_EVENTS];
     let after_sets = read::small_list(s, asked.next, &mut sets);
-    let mut next = [0u8; 1024];
+    let mut next = [0u8; TRANSITIONS];
     let after_next = read::small_list(s, after_sets, &mut next);
-    let mut verdicts = [0u8; 64];
+    let mut verdicts = [0u8; MOST_STATES];
     let after_verdicts = read::small_list(s, after_next, &mut verdicts);
     Tabled {
         property: Property {
@@ -47,7 +50,7 @@ pub fn table(s: &[u8], at: usize) -> Tabled {
 fn then_states(out: &mut [u8], filled: usize, set: u64) -> usize {
     let mut run = write::list_of(out, filled, wide(u64::count_ones(set)));
     let mut k: usize = 0;
-    while k < property::MOST_STATES {
+    while k < limits::MOST_STATES {
         run = write::with_number_if(out, run, bits::has(set, k), k as u32);
         k += 1;
     }

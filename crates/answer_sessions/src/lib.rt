@@ -4,7 +4,7 @@ ghost use Prim.Native.Nat.{_≤_};
 use batch::read;
 use batch::told::refused;
 use batch::write;
-use combos::Combination;
+use limits::Combination;
 use remembered::Step;
 use remembered::memory::Memory;
 use remembered::tables;

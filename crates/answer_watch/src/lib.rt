@@ -11,7 +11,7 @@ use property::Property;
 // The rooms of the watch program: 1,024 seen, 3,000 kept, 3,000 reports. The first two are the largest that a session has.
 const REPORTS: usize = 3000;
 
-const REPORT_NUMBERS: usize = REPORTS * lines::REPORT_STRIDE;
+const REPORT_NUMBERS: usize = REPORTS * limits::REPORT_STRIDE;
 
 // Room for all that is printed for one request: twice the lines of the fullest row. If that is not enough, the request is not
 // answered.

@@ -10,16 +10,8 @@ ghost use Rattle.document.specs.Positions.{holds};
 ghost use Rattle.document.specs.Combinations.{emptyOf, includes, compatible, join, precedes, bindsExactly, zeroPast};
 ghost use Rattle.document.specs.Tables.{numbersAt};
 ghost use Rattle.combos.specs.Restrictions.{restricted};
-
-// Numbers of a combination, one a parameter; document 02 changes it, with `Limits.width`.
-pub const WIDTH: usize = 4;
-
-// Numbers in a row of the seen table, and in a row of the kept table or of the reports.
-pub const SEEN_STRIDE: usize = WIDTH;
-
-pub const KEPT_STRIDE: usize = WIDTH + 1;
-
-pub type Combination = [u32; WIDTH];
+use limits::Combination;
+use limits::WIDTH;
 
 // One number of a combination against one of another --------------------------------------------------------------------
 

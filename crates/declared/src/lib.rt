@@ -8,14 +8,15 @@ ghost use Rattle.document.specs.Refusals.{refusalOf};
 ghost use Rattle.document.specs.Declarations.{declarations, header, eventName, nameAt};
 ghost use Rattle.rows.specs.Places.{PartAt, placeFrom};
 ghost use Rattle.declared.specs.Answers.{declaredOf, eventStart};
-use readings::MOST_EVENTS;
+use limits::EventSets;
+use limits::MOST_EVENTS;
 
 // What declarations say: a refusal's number and nothing else, or the counts, and for each event the set of its parameters.
 pub struct Declared {
     pub refusal: u8,
     pub parameters: usize,
     pub events: usize,
-    pub sets: [u8; MOST_EVENTS],
+    pub sets: EventSets,
 }
 
 // What declarations say: the number of their refusal, or their counts and sets.

@@ -11,8 +11,10 @@ ghost use Rattle.document.specs.Log.{isBadValue, rowEvent};
 ghost use Rattle.rows.specs.Split.{upToComma};
 ghost use Rattle.readings.specs.Readings.{Inside};
 ghost use Rattle.entries.specs.Entries.{isBarred, valuesSaid, declaredAt, entryOf};
-use combos::Combination;
-use combos::WIDTH;
+use limits::Combination;
+use limits::EventSets;
+use limits::Places;
+use limits::WIDTH;
 
 pub const ROW_BYTES: usize = 128;
 
@@ -150,9 +152,9 @@ fn refused(refusal: u8) -> Entry
 // The event and values that a row says, for declarations whose event names stand in the text at these places.
 pub fn read_row<'a, 'b, 'c>(
     text: &'a [u8],
-    starts: &'b [usize; 16],
-    sizes: &'b [usize; 16],
-    sets: &'b [u8; 16],
+    starts: &'b Places,
+    sizes: &'b Places,
+    sets: &'b EventSets,
     events: usize,
     parameters: usize,
     row: &'c [u8],

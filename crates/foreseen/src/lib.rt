@@ -10,9 +10,10 @@ ghost use Rattle.slices.specs.TablesLaws.{keptAt};
 ghost use Rattle.tables.specs.Tables.{keptFrom};
 ghost use Rattle.moves.specs.Ready.{Ready, RowReady, Steady};
 ghost use Rattle.foreseen.specs.Foreseen.{weightOf, movedWeight, tallyOf, roomRefusal, foreseenOf};
-use combos::Combination;
-use combos::KEPT_STRIDE;
-use combos::WIDTH;
+use limits::Combination;
+use limits::KEPT_STRIDE;
+use limits::Transitions;
+use limits::WIDTH;
 use moves::Known;
 
 // What a kept row adds to the kept rows after an event, and to its reports.
@@ -51,7 +52,7 @@ fn moved_weight(to: u32, hopeful: u64, asked: u64) -> Weight
 
 // What kept row i adds.
 fn weigh(
-    next: &[u8; 1024],
+    next: &Transitions,
     known: Known,
     seen: &[u32],
     n: usize,
@@ -86,7 +87,7 @@ fn weigh(
 
 // The kept rows after the event, and its reports, counted.
 fn tally(
-    next: &[u8; 1024],
+    next: &Transitions,
     known: Known,
     seen: &[u32],
     n: usize,
@@ -142,7 +143,7 @@ fn room_refusal(rooms: Rooms, seen: usize, kept: usize, reports: usize) -> u8
 
 // What an event with this binding comes to in a session that is sound. Nothing is written.
 pub fn foresee(
-    next: &[u8; 1024],
+    next: &Transitions,
     known: Known,
     seen: &[u32],
     n: usize,

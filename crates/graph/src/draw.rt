@@ -1,5 +1,7 @@
 // The text of a graph (docs/GRAPH.md): a line for each state, then a line for each arrow.
 use libc::STDOUT_FILENO;
+use limits::Transitions;
+use limits::Verdicts;
 use property::Property;
 
 const MATCH: u8 = 1;
@@ -70,23 +72,23 @@ fn print_state(state: usize, verdict: u8, hopeful: bool) {
 }
 
 // The first states of a table, as many as it has.
-fn print_states(verdicts: &[u8; 64], states: usize, hopeful: u64) {
+fn print_states(verdicts: &Verdicts, states: usize, hopeful: u64) {
     let mut state: usize = 0;
-    while state < states && state < property::MOST_STATES {
+    while state < states && state < limits::MOST_STATES {
         print_state(state, verdicts[state], bits::has(hopeful, state));
         state += 1;
     }
 }
 
 // Whether an event leads from one state to another.
-fn leads(next: &[u8; 1024], from: usize, event: usize, to: usize) -> bool {
-    if property::MOST_STATES <= from {
+fn leads(next: &Transitions, from: usize, event: usize, to: usize) -> bool {
+    if limits::MOST_STATES <= from {
         return false;
     }
-    if property::MOST_EVENTS <= event {
+    if limits::MOST_EVENTS <= event {
         return false;
     }
-    let at = from * property::MOST_EVENTS + event;
+    let at = from * limits::MOST_EVENTS + event;
     wide(next[at]) == to
 }
 
@@ -107,7 +109,7 @@ fn print_before_name(from: usize, to: usize, first: bool) {
 fn print_arrow(
     declarations: &[u8],
     pattern: &[u8],
-    next: &[u8; 1024],
+    next: &Transitions,
     events: usize,
     from: usize,
     to: usize,
@@ -131,7 +133,7 @@ fn print_arrow(
 fn print_arrows_from(
     declarations: &[u8],
     pattern: &[u8],
-    next: &[u8; 1024],
+    next: &Transitions,
     events: usize,
     states: usize,
     from: usize,
@@ -146,7 +148,7 @@ fn print_arrows_from(
 fn print_arrows(
     declarations: &[u8],
     pattern: &[u8],
-    next: &[u8; 1024],
+    next: &Transitions,
     events: usize,
     states: usize,
 ) {

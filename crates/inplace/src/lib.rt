@@ -4,9 +4,10 @@
 // Interior: `move_in_place`, for a session that was judged. What it leaves over is `advance`'s.
 ghost use Rattle.spans.specs.Spans.{Movable, Spans};
 ghost use Rattle.inplace.specs.InPlace.{WalksTo, MovedInPlace};
-use combos::Combination;
-use combos::KEPT_STRIDE;
-use combos::WIDTH;
+use limits::Combination;
+use limits::KEPT_STRIDE;
+use limits::Transitions;
+use limits::WIDTH;
 use moves::Known;
 
 // The row before which the moves stopped, and the row from which on none includes the binding. Where they are the same, all is
@@ -19,7 +20,7 @@ pub struct InPlace {
 // Moves the rows between two rows that include the binding, up to one that is dropped or reported. Answers the row that it
 // stopped before.
 fn walk(
-    next: &[u8; 1024],
+    next: &Transitions,
     known: Known,
     kept: &mut [u32],
     m: usize,
@@ -58,7 +59,7 @@ fn walk(
 
 // Moves the first rows that include the binding, up to one that is dropped or reported.
 pub fn move_in_place(
-    next: &[u8; 1024],
+    next: &Transitions,
     known: Known,
     kept: &mut [u32],
     m: usize,

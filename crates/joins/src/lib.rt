@@ -7,8 +7,8 @@ ghost use Rattle.document.specs.OneEvent.{joinSeen};
 ghost use Rattle.document.specs.Tables.{seenRows};
 ghost use Rattle.ordered.specs.Rows.{SeenInOrder};
 ghost use Rattle.joins.specs.JoinLaws.{gathered, coversAt, Joins};
-use combos::Combination;
-use combos::WIDTH;
+use limits::Combination;
+use limits::WIDTH;
 
 // Sets of parameters, as bits.
 const SETS: u64 = 1 << WIDTH;

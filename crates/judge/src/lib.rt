@@ -13,10 +13,10 @@ ghost use Rattle.ordered.specs.Rows.{SeenInOrder};
 ghost use Rattle.judge.specs.Sound.{rightlyKeptBy, soundBy, sessionOf, rowsOf, Rows};
 ghost use Rattle.judge.specs.RowsLaws.{notEmpty};
 ghost use Rattle.judge.specs.SoundLaws.{seenStands, keptStands};
-use combos::Combination;
-use combos::KEPT_STRIDE;
-use combos::SEEN_STRIDE;
-use combos::WIDTH;
+use limits::Combination;
+use limits::KEPT_STRIDE;
+use limits::SEEN_STRIDE;
+use limits::WIDTH;
 
 // "at most 1,024 rows", "at most 3,000 rows" ("One event").
 pub const MOST_SEEN: usize = 1024;

@@ -7,6 +7,7 @@ ghost use Rattle.document.specs.Limits.{mostEvents};
 ghost use Rattle.property.specs.Meaning.{meaning};
 ghost use Rattle.judge.specs.Sound.{sessionOf};
 ghost use Rattle.judging.specs.Judging.{sameSets, agreesBy, Judges};
+use limits::EventSets;
 use moves::Known;
 use property::Property;
 use readings::Reading;
@@ -20,7 +21,7 @@ pub struct Judged {
 }
 
 // Whether the first n sets are the same.
-fn same_sets(a: &[u8; 16], b: &[u8; 16], n: usize) -> bool
+fn same_sets(a: &EventSets, b: &EventSets, n: usize) -> bool
     requires { ⌜ n ≤ mostEvents ⌝ }
     ensures { λ r. ⌜ r ≡ sameSets (now (a .entry)) (now (b .entry)) n ⌝ }
 {

@@ -7,17 +7,18 @@ ghost use Rattle.document.specs.OneEvent.{see, keptAfter};
 ghost use Rattle.document.specs.Tables.{seenRows, keptRows, seenTable, keptTable};
 ghost use Rattle.moves.specs.Steps.{stepOf, stateIn};
 ghost use Rattle.keeping.specs.Keeping.{SettleReady, SettledRow, Siftable, Sifted, GrowReady, GrownRow, Growable, Grown, Keepable, Seeable};
-use combos::Combination;
-use combos::KEPT_STRIDE;
-use combos::SEEN_STRIDE;
-use combos::WIDTH;
+use limits::Combination;
+use limits::KEPT_STRIDE;
+use limits::SEEN_STRIDE;
+use limits::Transitions;
+use limits::WIDTH;
 use moves::Known;
 
 // Rows in place ---------------------------------------------------------------------------------------------------------
 
 // Row i as it stays or moves in place, written after o rows; or it is dropped. Answers how many rows there are then.
 fn settle(
-    next: &[u8; 1024],
+    next: &Transitions,
     known: Known,
     kept: &mut [u32],
     i: usize,
@@ -45,7 +46,7 @@ fn settle(
 
 // Every row, upwards. Answers how many are left.
 fn sift(
-    next: &[u8; 1024],
+    next: &Transitions,
     known: Known,
     kept: &mut [u32],
     m: usize,
@@ -69,7 +70,7 @@ fn sift(
 // Row i of m, below rows that are written: the combination that the binding creates from it is put in above it. Answers how
 // many rows there are then.
 fn grow_row(
-    next: &[u8; 1024],
+    next: &Transitions,
     known: Known,
     seen: &[u32],
     n: usize,
@@ -102,7 +103,7 @@ fn grow_row(
 
 // Every row, downwards: a combination that is created comes after the one that it is created from.
 fn grow(
-    next: &[u8; 1024],
+    next: &Transitions,
     known: Known,
     seen: &[u32],
     n: usize,
@@ -129,7 +130,7 @@ fn grow(
 // The kept rows after the event: those in place, then those created, then 0 where rows stood before. Rows that are dropped
 // free their room before others are put in.
 pub fn keep_rows(
-    next: &[u8; 1024],
+    next: &Transitions,
     known: Known,
     seen: &[u32],
     n: usize,

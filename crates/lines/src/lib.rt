@@ -16,14 +16,11 @@ ghost use Rattle.document.specs.Printing.{decimal, lineEnd, wordOf, withCommas,
 ghost use Rattle.decimals.specs.Written.{Written};
 ghost use Rattle.decimals.specs.Decimals.{mostDigits};
 ghost use Rattle.lines.specs.Lines.{valuesText, refusedNumberText, refusedNumberLine, namesOf, headingOf, mostValue, mostValues, mostVerdict, mostRefused, lineEndBytes, mostNames, mostLine, mostRefusal, mostHeading};
+use limits::REPORT_STRIDE;
+use limits::WIDTH;
 
 // Bytes of `event`, with which a header begins.
 const EVENT_BYTES: usize = 5;
-
-// Numbers in a report: a value for each parameter, then the verdict.
-const WIDTH: usize = 4;
-
-pub const REPORT_STRIDE: usize = WIDTH + 1;
 
 // Bytes that the parts of a line can have at most: a row's number; a verdict, a value and a parameter name, each with its
 // comma; `refused ` and its number; `row,verdict`; a line end.

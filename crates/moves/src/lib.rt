@@ -11,10 +11,9 @@ ghost use Rattle.document.specs.Tables.{seenRows};
 ghost use Rattle.ordered.specs.Rows.{SeenInOrder};
 ghost use Rattle.moves.specs.Steps.{one, isNew, stepOf, movesAt};
 ghost use Rattle.moves.specs.Ready.{Binds, Joint};
-use combos::Combination;
-
-// Transitions of a state in a property table, one an event.
-const MOST_EVENTS: usize = 16;
+use limits::Combination;
+use limits::MOST_EVENTS;
+use limits::Transitions;
 
 // What is worked out once for a property and then used at each event: its counts, and its hopeful states and those whose
 // verdict is asked for, as bits.
@@ -58,7 +57,7 @@ pub fn is_among(states: u64, s: u32) -> bool
 }
 
 // The state that an event leads to.
-pub fn next_state(next: &[u8; 1024], s: u32, e: usize) -> u32
+pub fn next_state(next: &Transitions, s: u32, e: usize) -> u32
     requires { ⌜ (s < mostStates) × (e < mostEvents) ⌝ }
     ensures { λ r. ⌜ r ≡ stepOf (now (next .entry)) s e ⌝ }
 {

@@ -8,10 +8,10 @@ ghost use Rattle.document.specs.Limits.{width, seenStride, keptStride};
 ghost use Rattle.document.specs.Tables.{seenRows};
 ghost use Rattle.ordered.specs.Rows.{Searchable, Parted, SeenInOrder};
 ghost use Rattle.ordered.specs.Writes.{Raised, Pasted, SeenInserted, Put, Inserted, ZeroIn};
-use combos::Combination;
-use combos::KEPT_STRIDE;
-use combos::SEEN_STRIDE;
-use combos::WIDTH;
+use limits::Combination;
+use limits::KEPT_STRIDE;
+use limits::SEEN_STRIDE;
+use limits::WIDTH;
 
 // Rows in order ---------------------------------------------------------------------------------------------------------
 

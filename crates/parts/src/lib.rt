@@ -9,6 +9,7 @@ ghost use Rattle.sets.specs.Shapes.{eitherShape, thenShape};
 ghost use Rattle.tokens.specs.Lexing.{wordKind};
 ghost use Rattle.tokens.specs.Steps.{Begins, Looks};
 ghost use Rattle.parts.specs.Parts.{Ready, Answers, Marked, Joined, takenAt, refusedAt};
+use limits::Places;
 
 // "a 32nd event name in the pattern" is refused.
 pub const MOST_NAMES: usize = 31;
@@ -53,8 +54,8 @@ pub fn word<'a, 'b, 'c>(
     names: usize,
     depth: usize,
     events: &'b [u8],
-    starts: &'c [usize; 16],
-    sizes: &'c [usize; 16],
+    starts: &'c Places,
+    sizes: &'c Places,
     count: usize,
 ) -> Part
     requires { ⌜ Ready (now text) at names depth (now events) (now starts) (now sizes) count × (Looks (now text) at t × (t .kind ≡ wordKind)) ⌝ }

@@ -13,6 +13,7 @@ ghost use Rattle.tokens.specs.Lexing.{lexemesAt};
 ghost use Rattle.tokens.specs.Steps.{Begins, Looks};
 ghost use Rattle.parts.specs.Parts.{Ready, Answers};
 ghost use Rattle.pattern.specs.Texts.{askedBy, refusedText, takenText, parsedOf, Asks};
+use limits::Places;
 use parts::Part;
 
 // "a parenthesis opened while 16 are open" is refused.
@@ -43,8 +44,8 @@ pub fn atom<'a, 'b, 'c>(
     names: usize,
     depth: usize,
     events: &'b [u8],
-    starts: &'c [usize; 16],
-    sizes: &'c [usize; 16],
+    starts: &'c Places,
+    sizes: &'c Places,
     count: usize,
 ) -> Part
     requires { ⌜ Ready (now text) at names depth (now events) (now starts) (now sizes) count ⌝ }
@@ -79,8 +80,8 @@ pub fn repetition<'a, 'b, 'c>(
     names: usize,
     depth: usize,
     events: &'b [u8],
-    starts: &'c [usize; 16],
-    sizes: &'c [usize; 16],
+    starts: &'c Places,
+    sizes: &'c Places,
     count: usize,
 ) -> Part
     requires { ⌜ Ready (now text) at names depth (now events) (now starts) (now sizes) count ⌝ }
@@ -100,8 +101,8 @@ pub fn sequence<'a, 'b, 'c>(
     names: usize,
     depth: usize,
     events: &'b [u8],
-    starts: &'c [usize; 16],
-    sizes: &'c [usize; 16],
+    starts: &'c Places,
+    sizes: &'c Places,
     count: usize,
 ) -> Part
     requires { ⌜ Ready (now text) at names depth (now events) (now starts) (now sizes) count ⌝ }
@@ -126,8 +127,8 @@ pub fn alternative<'a, 'b, 'c>(
     names: usize,
     depth: usize,
     events: &'b [u8],
-    starts: &'c [usize; 16],
-    sizes: &'c [usize; 16],
+    starts: &'c Places,
+    sizes: &'c Places,
     count: usize,
 ) -> Part
     requires { ⌜ Ready (now text) at names depth (now events) (now starts) (now sizes) count ⌝ }
@@ -222,8 +223,8 @@ fn asks(text: &[u8], a: Part) -> Parsed
 pub fn parse<'a, 'b, 'c>(
     text: &'a [u8],
     events: &'b [u8],
-    starts: &'c [usize; 16],
-    sizes: &'c [usize; 16],
+    starts: &'c Places,
+    sizes: &'c Places,
     count: usize,
 ) -> Parsed
     requires { ⌜ Inside (now events) (now starts) (now sizes) × (count ≤ mostEvents) ⌝ }

@@ -17,6 +17,10 @@ ghost use Rattle.entries.specs.Entries.{declaredAt};
 ghost use Rattle.turns.specs.Stepping.{rowStepBy, RowGoes, readAs, Sure};
 ghost use Rattle.printing.specs.Printing.{printRows, printCall, printsTo};
 ghost use Rattle.printing.specs.Prints.{PrintLeaves, RowFits, RowPrinted};
+use limits::EventSets;
+use limits::Places;
+use limits::Transitions;
+use limits::Verdicts;
 use moves::Known;
 use property::Property;
 use readings::Reading;
@@ -57,12 +61,12 @@ fn printed_to(
 // Takes the row at the next offset, and writes its lines where those before it end.
 fn print_row<'a, 'b, 'c>(
     declarations: &'a [u8],
-    starts: &'b [usize; 16],
-    sizes: &'b [usize; 16],
-    sets: &'b [u8; 16],
+    starts: &'b Places,
+    sizes: &'b Places,
+    sets: &'b EventSets,
     events: usize,
-    next: &'b [u8; 1024],
-    verdicts: &'b [u8; 64],
+    next: &'b Transitions,
+    verdicts: &'b Verdicts,
     known: Known,
     seen: &mut [u32],
     kept: &mut [u32],

@@ -11,12 +11,12 @@ ghost use Rattle.document.specs.Limits.{width, mostEvents, mostStates};
 ghost use Rattle.document.specs.Property.{inRange, asksFor};
 ghost use Rattle.property.specs.Meaning.{meaning, countsFit, setsFit, rowFits, rowsFit, Leading, Hopes, Asks};
 ghost use Rattle.property.specs.Steps.{Within, Ways, AllWays, Round, Reached};
-
-pub const WIDTH: usize = 4;
-
-pub const MOST_EVENTS: usize = 16;
-
-pub const MOST_STATES: usize = 64;
+use limits::EventSets;
+use limits::MOST_EVENTS;
+use limits::MOST_STATES;
+use limits::Transitions;
+use limits::Verdicts;
+use limits::WIDTH;
 
 // The verdicts are 0 undecided, 1 match, 2 fail; those asked for are a set: bit 0 for match, bit 1 for fail.
 pub const LAST_VERDICT: u8 = 2;
@@ -33,9 +33,9 @@ pub struct Property {
     pub events: usize,
     pub states: usize,
     pub asked: u8,
-    pub sets: [u8; 16],
-    pub next: [u8; 1024],
-    pub verdicts: [u8; 64],
+    pub sets: EventSets,
+    pub next: Transitions,
+    pub verdicts: Verdicts,
 }
 
 fn wide(x: u8) -> usize
@@ -71,7 +71,7 @@ fn counts_fit(parameters: usize, events: usize, states: usize, asked: u8) -> boo
 }
 
 // Whether each event binds declared parameters alone.
-fn sets_fit(sets: &[u8; 16], events: usize, parameters: usize) -> bool
+fn sets_fit(sets: &EventSets, events: usize, parameters: usize) -> bool
     requires { ⌜ (events ≤ mostEvents) × (parameters ≤ width) ⌝ }
     ensures { λ r. ⌜ r ≡ setsFit (now (sets .entry)) events parameters ⌝ }
 {
@@ -87,7 +87,7 @@ fn sets_fit(sets: &[u8; 16], events: usize, parameters: usize) -> bool
 }
 
 // Whether each event leads from a state to one of the states.
-fn row_fits(next: &[u8; 1024], s: usize, events: usize, states: usize) -> bool
+fn row_fits(next: &Transitions, s: usize, events: usize, states: usize) -> bool
     requires { ⌜ (s < mostStates) × (events ≤ mostEvents) ⌝ }
     ensures { λ r. ⌜ r ≡ rowFits (now (next .entry)) events states s ⌝ }
 {
@@ -102,7 +102,7 @@ fn row_fits(next: &[u8; 1024], s: usize, events: usize, states: usize) -> bool
 }
 
 // Whether each state has a verdict, and each event leads from it to one of the states.
-fn rows_fit(next: &[u8; 1024], verdicts: &[u8; 64], events: usize, states: usize) -> bool
+fn rows_fit(next: &Transitions, verdicts: &Verdicts, events: usize, states: usize) -> bool
     requires { ⌜ (states ≤ mostStates) × (events ≤ mostEvents) ⌝ }
     ensures { λ r. ⌜ r ≡ rowsFit (now (next .entry)) (now (verdicts .entry)) events states states ⌝ }
 {
@@ -168,7 +168,7 @@ pub fn asked_states(p: Property) -> u64
 }
 
 // The states that an allowed event leads to from state s, as bits.
-fn ways(next: &[u8; 1024], s: usize, events: usize, states: usize, allowed: u64) -> u64
+fn ways(next: &Transitions, s: usize, events: usize, states: usize, allowed: u64) -> u64
     requires { ⌜ Within (now next) events states × (s < states) ⌝ }
     ensures { λ r. ⌜ Ways (now (next .entry)) allowed events s r ⌝ }
 {
@@ -183,11 +183,11 @@ fn ways(next: &[u8; 1024], s: usize, events: usize, states: usize, allowed: u64)
 }
 
 // For each state the states that an allowed event leads to from it: the one pass over the table that `leads` makes.
-fn all_ways(next: &[u8; 1024], events: usize, states: usize, allowed: u64) -> [u64; 64]
+fn all_ways(next: &Transitions, events: usize, states: usize, allowed: u64) -> [u64; MOST_STATES]
     requires { ⌜ Within (now next) events states ⌝ }
     ensures { λ r. ⌜ AllWays (now (next .entry)) allowed events states r ⌝ }
 {
-    let mut found = [0u64; 64];
+    let mut found = [0u64; MOST_STATES];
     let mut s: usize = 0;
     while s < states {
         found[s] = ways(next, s, events, states, allowed);
@@ -197,7 +197,7 @@ fn all_ways(next: &[u8; 1024], events: usize, states: usize, allowed: u64) -> [u
 }
 
 // One round: the states from which an event leads to one of a set of states.
-fn round(ways: &[u64; 64], states: usize, goal: u64) -> u64
+fn round(ways: &[u64; MOST_STATES], states: usize, goal: u64) -> u64
     requires { ⌜ states ≤ mostStates ⌝ }
     ensures { λ r. ⌜ Round (now (ways .entry)) goal states r ⌝ }
 {
@@ -212,7 +212,7 @@ fn round(ways: &[u64; 64], states: usize, goal: u64) -> u64
 
 // The states from which one or more events lead to a marked state, from the ways of each state. Each round is one operation
 // on a word for each state, and there are at most as many rounds as states: the first that finds nothing new is the last.
-fn rounds(ways: &[u64; 64], states: usize, marked: u64) -> u64
+fn rounds(ways: &[u64; MOST_STATES], states: usize, marked: u64) -> u64
     requires { ⌜ states ≤ mostStates ⌝ }
     ensures { λ r. ⌜ Reached (now (ways .entry)) states marked r ⌝ }
 {

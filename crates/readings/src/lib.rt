@@ -9,11 +9,12 @@ ghost use Rattle.document.specs.Refusals.{refusalOf};
 ghost use Rattle.document.specs.Declarations.{headerRow, eventRow};
 ghost use Rattle.rows.specs.Split.{Split};
 ghost use Rattle.readings.specs.Readings.{namesAt, Inside, Reads, Placed, said, noneRead, oneMore, RowReads};
+use limits::EventSets;
+use limits::MOST_EVENTS;
+use limits::Places;
 
-// Limits of document 01: bytes of declarations or of a pattern, and events.
+// Bytes of declarations or of a pattern (refusal 1).
 pub const TEXT_BYTES: usize = 4096;
-
-pub const MOST_EVENTS: usize = 16;
 
 // What declarations say: a refusal's number and nothing else, or the counts, for each event the set of its parameters, and where
 // its name stands in the text.
@@ -21,17 +22,17 @@ pub struct Reading {
     pub refusal: u8,
     pub parameters: usize,
     pub events: usize,
-    pub sets: [u8; MOST_EVENTS],
-    pub starts: [usize; MOST_EVENTS],
-    pub sizes: [usize; MOST_EVENTS],
+    pub sets: EventSets,
+    pub starts: Places,
+    pub sizes: Places,
 }
 
 // Where a name stands first among those at the first places of the text, or their number where it is none of them.
 // `same` compares lengths before bytes, so that most names cost one comparison.
 pub fn find<'a, 'b, 'c>(
     text: &'a [u8],
-    starts: &'b [usize; MOST_EVENTS],
-    sizes: &'b [usize; MOST_EVENTS],
+    starts: &'b Places,
+    sizes: &'b Places,
     count: usize,
     name: &'c [u8],
 ) -> usize
@@ -55,7 +56,7 @@ fn header_refusal(row: &[u8], f: rows::Fields) -> u8
     requires { ⌜ Split (now row) f ⌝ }
     ensures { λ r. ⌜ r ≡ refusalOf (headerRow (now (row .entry))) ⌝ }
 {
-    if rows::MOST_FIELDS < f.count {
+    if limits::MOST_FIELDS < f.count {
         return refusals::OVER_LIMITS;
     }
     if rows::has_stray(row) {

@@ -1,6 +1,9 @@
 // What a batch remembers, and the requests that set it (docs/CASES.md, "What a batch remembers"). The tables and the
 // declarations lie in arrays of `main`, of which the first numbers or bytes are lent.
 use batch::read;
+use limits::MOST_EVENTS;
+use limits::MOST_STATES;
+use limits::TRANSITIONS;
 use property::Property;
 
 // A property, how many bytes of declarations and numbers of each table are lent, and the two counts of the tables; and of the
@@ -44,9 +47,9 @@ pub fn nothing() -> Memory {
             events: 0,
             states: 0,
             asked: 0,
-            sets: [0; 16],
-            next: [0; 1024],
-            verdicts: [0; 64],
+            sets: [0; MOST_EVENTS],
+            next: [0; TRANSITIONS],
+            verdicts: [0; MOST_STATES],
         },
         declared: 0,
         seen: 0,

@@ -11,6 +11,7 @@ ghost use Rattle.document.specs.Rows.{endsRow, firstRow, stray, field, valueOf}
 ghost use Rattle.document.specs.Log.{nextAt};
 ghost use Rattle.rows.specs.Split.{upToComma, mostFields, Split, added};
 ghost use Rattle.rows.specs.Places.{PartAt, fieldPart};
+use limits::MOST_FIELDS;
 
 const CR: u8 = 13;
 
@@ -23,9 +24,6 @@ const ZERO: u8 = 48;
 const NINE: u8 = 57;
 
 const LARGEST_VALUE: u64 = 4294967295;
-
-// How many fields a row of declarations or of a log can have: an event and a parameter each.
-pub const MOST_FIELDS: usize = 5;
 
 // Whether a line end stands at a place.
 fn ends_at(s: &[u8], i: usize) -> bool

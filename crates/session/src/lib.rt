@@ -12,10 +12,11 @@ ghost use Rattle.property.specs.Meaning.{meaning};
 ghost use Rattle.judge.specs.Sound.{sessionOf};
 ghost use Rattle.steps.specs.Steps.{Leaves};
 ghost use Rattle.session.specs.Calls.{StartLeaves, lookedUp, Findable, foundBy};
-use combos::Combination;
-use combos::KEPT_STRIDE;
-use combos::SEEN_STRIDE;
-use combos::WIDTH;
+use limits::Combination;
+use limits::KEPT_STRIDE;
+use limits::SEEN_STRIDE;
+use limits::Verdicts;
+use limits::WIDTH;
 use property::Property;
 use steps::Answered;
 
@@ -113,7 +114,7 @@ fn nothing_held(refusal: u8) -> Looked
 }
 
 // The kept row of a combination, or hopeless.
-fn find_kept(verdicts: &[u8; 64], kept: &[u32], m: usize, c: Combination) -> Looked
+fn find_kept(verdicts: &Verdicts, kept: &[u32], m: usize, c: Combination) -> Looked
     requires { ⌜ Findable m (now kept) ⌝ }
     ensures { λ r. ⌜ r ≡ foundBy (now (verdicts .entry)) c (keptRows m (now (kept .entry))) ⌝ }
 {

@@ -8,14 +8,16 @@ ghost use Prim.Native.Nat.{_≤_, _<_};
 ghost use Rattle.document.specs.Patterns.{epsilon, name};
 ghost use Rattle.document.specs.Positions.{holds};
 ghost use Rattle.sets.specs.Shapes.{mergeOf, linkOf, shapeOf, eitherShape, thenShape, starShape, plusShape};
+use limits::MOST_EVENTS;
+use limits::NUMBERS;
 
 // What a part of a pattern carries: `follow` at a number those that can come next after it, `named` at an event those that name it.
 pub struct Shape {
     pub null: bool,
     pub first: u32,
     pub last: u32,
-    pub follow: [u32; 32],
-    pub named: [u32; 16],
+    pub follow: [u32; NUMBERS],
+    pub named: [u32; MOST_EVENTS],
 }
 
 // Whether a set holds a number.
@@ -46,7 +48,7 @@ pub fn choose(c: bool, x: u32, y: u32) -> u32
 }
 
 // The sets of a and b joined, number by number.
-fn merge(a: [u32; 32], b: [u32; 32]) -> [u32; 32]
+fn merge(a: [u32; NUMBERS], b: [u32; NUMBERS]) -> [u32; NUMBERS]
     ensures { λ r. ⌜ r ≡ mergeOf 32 a b ⌝ }
 {
     let mut r = a;
@@ -59,7 +61,7 @@ fn merge(a: [u32; 32], b: [u32; 32]) -> [u32; 32]
 }
 
 // The same, event by event.
-fn merge_named(a: [u32; 16], b: [u32; 16]) -> [u32; 16]
+fn merge_named(a: [u32; MOST_EVENTS], b: [u32; MOST_EVENTS]) -> [u32; MOST_EVENTS]
     ensures { λ r. ⌜ r ≡ mergeOf 16 a b ⌝ }
 {
     let mut r = a;
@@ -72,7 +74,7 @@ fn merge_named(a: [u32; 16], b: [u32; 16]) -> [u32; 16]
 }
 
 // After the numbers of `last` those of `first` can come too.
-fn link(a: [u32; 32], last: u32, first: u32) -> [u32; 32]
+fn link(a: [u32; NUMBERS], last: u32, first: u32) -> [u32; NUMBERS]
     ensures { λ r. ⌜ r ≡ linkOf a last first ⌝ }
 {
     let mut r = a;
@@ -92,8 +94,8 @@ pub fn empty() -> Shape
         null: true, // its one word
         first: 0,
         last: 0,
-        follow: [0u32; 32],
-        named: [0u32; 16],
+        follow: [0u32; NUMBERS],
+        named: [0u32; MOST_EVENTS],
     }
 }
 
@@ -103,13 +105,13 @@ pub fn leaf(n: usize, event: usize) -> Shape
     ensures { λ r. ⌜ r ≡ shapeOf (name n event) ⌝ }
 {
     let set = 1u32 << n;
-    let mut named = [0u32; 16];
+    let mut named = [0u32; MOST_EVENTS];
     named[event] = set;
     Shape {
         null: false,
         first: set,
         last: set,
-        follow: [0u32; 32],
+        follow: [0u32; NUMBERS],
         named: named,
     }
 }

@@ -11,9 +11,10 @@ ghost use Rattle.document.specs.Combinations.{includes};
 ghost use Rattle.document.specs.Tables.{numbersAt};
 ghost use Rattle.ordered.specs.Writes.{Put};
 ghost use Rattle.settling.specs.Settling.{ToldRow, MovedRow, Lowered};
-use combos::Combination;
-use combos::KEPT_STRIDE;
-use combos::WIDTH;
+use limits::Combination;
+use limits::KEPT_STRIDE;
+use limits::Verdicts;
+use limits::WIDTH;
 
 // Rows that include the binding -----------------------------------------------------------------------------------------
 
@@ -54,7 +55,7 @@ pub fn includes_at(kept: &[u32], at: usize, b: Combination) -> bool
 // The report of a row that moves to a state, if its verdict is asked for, after `count` reports. Answers how many there are
 // then.
 pub fn tell(
-    verdicts: &[u8; 64],
+    verdicts: &Verdicts,
     asked: u64,
     kept: &[u32],
     at: usize,

@@ -4,9 +4,9 @@ ghost use Prim.Native.Nat.{_+_, _*_, _<_, _≤_};
 ghost use lib.ListN.{length};
 ghost use Rattle.document.specs.Limits.{width, keptStride};
 ghost use Rattle.spans.specs.Spans.{Rising, Begins, Ends, LastBound, Agrees, NextFound};
-use combos::Combination;
-use combos::KEPT_STRIDE;
-use combos::WIDTH;
+use limits::Combination;
+use limits::KEPT_STRIDE;
+use limits::WIDTH;
 
 // Where the rows stand that may include the binding ---------------------------------------------------------------------
 

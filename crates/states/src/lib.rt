@@ -10,12 +10,12 @@ ghost use lib.Dec.{ltb};
 ghost use Rattle.document.specs.Limits.{mostEvents, mostStates};
 ghost use Rattle.document.specs.States.{stateOf};
 ghost use Rattle.states.specs.Growing.{nextsOf, movesOf, verdictFrom, verdictsFrom, Row, Grows, Tabled};
-
-const MOST_STATES: usize = 64;
-
-const MOST_EVENTS: usize = 16;
-
-const NUMBERS: usize = 32;
+use limits::MOST_EVENTS;
+use limits::MOST_STATES;
+use limits::NUMBERS;
+use limits::TRANSITIONS;
+use limits::Transitions;
+use limits::Verdicts;
 
 const UNDECIDED: u8 = 0;
 
@@ -33,8 +33,8 @@ const START: u32 = 1;
 // that there are more than 64 states, and nothing else.
 pub struct Grown {
     pub count: usize,
-    pub sets: [u32; 64],
-    pub next: [u8; 1024],
+    pub sets: [u32; MOST_STATES],
+    pub next: Transitions,
 }
 
 // The table of a pattern: whether there are more than 64 states (and all else is 0), and else how many there are, the state
@@ -42,12 +42,12 @@ pub struct Grown {
 pub struct Table {
     pub over: bool,
     pub states: usize,
-    pub next: [u8; 1024],
-    pub verdicts: [u8; 64],
+    pub next: Transitions,
+    pub verdicts: Verdicts,
 }
 
 // The numbers that can come next after a number of a set.
-fn nexts(after: &[u32; 32], set: u32) -> u32
+fn nexts(after: &[u32; NUMBERS], set: u32) -> u32
     ensures { λ r. ⌜ r ≡ nextsOf (now (after .entry)) set 32 ⌝ }
 {
     let mut found = 0u32;
@@ -60,11 +60,16 @@ fn nexts(after: &[u32; 32], set: u32) -> u32
 }
 
 // The sets that the events lead to from a set. An event that the pattern never names leads to the base alone.
-fn moves(after: &[u32; 32], named: &[u32; 16], base: u32, set: u32) -> [u32; 16]
+fn moves(
+    after: &[u32; NUMBERS],
+    named: &[u32; MOST_EVENTS],
+    base: u32,
+    set: u32,
+) -> [u32; MOST_EVENTS]
     ensures { λ r. ⌜ r ≡ movesOf (now (after .entry)) (now (named .entry)) base set ⌝ }
 {
     let reach = nexts(after, set);
-    let mut to = [0u32; 16];
+    let mut to = [0u32; MOST_EVENTS];
     let mut e: usize = 0;
     while e < MOST_EVENTS {
         to[e] = reach & named[e] | base;
@@ -74,7 +79,7 @@ fn moves(after: &[u32; 32], named: &[u32; 16], base: u32, set: u32) -> [u32; 16]
 }
 
 // The number of a set among the first n, or n.
-fn place(sets: &[u32; 64], n: usize, set: u32) -> usize
+fn place(sets: &[u32; MOST_STATES], n: usize, set: u32) -> usize
     requires { ⌜ (n ≤ mostStates) × (length (now sets) ≡ mostStates) ⌝ }
     ensures { λ r. ⌜ r ≡ stateOf set (take n (now (sets .entry))) ⌝ }
 {
@@ -103,11 +108,11 @@ fn count_with(n: usize, k: usize) -> usize
 // A set that stands among them already is written again where it stands. Answers how many sets there are then, or 65 as soon
 // as one finds no place.
 fn row(
-    sets: &mut [u32; 64],
-    next: &mut [u8; 1024],
+    sets: &mut [u32; MOST_STATES],
+    next: &mut Transitions,
     count: usize,
     i: usize,
-    to: &[u32; 16],
+    to: &[u32; MOST_EVENTS],
     events: usize,
 ) -> usize
     requires { ⌜ (count ≤ mostStates) × (i < mostStates) × (events ≤ mostEvents) × (length (now sets) ≡ mostStates) × (length (now next) ≡ mostStates * mostEvents) ⌝ }
@@ -130,13 +135,13 @@ fn row(
 }
 
 // All states, found by going through them in number order and, within one, through the events in number order.
-fn grow(after: &[u32; 32], named: &[u32; 16], base: u32, events: usize) -> Grown
+fn grow(after: &[u32; NUMBERS], named: &[u32; MOST_EVENTS], base: u32, events: usize) -> Grown
     requires { ⌜ events ≤ mostEvents ⌝ }
     ensures { λ r. ⌜ Grows (now (after .entry)) (now (named .entry)) base events r ⌝ }
 {
-    let mut sets = [0u32; 64];
+    let mut sets = [0u32; MOST_STATES];
     sets[0] = START;
-    let mut next = [0u8; 1024];
+    let mut next = [0u8; TRANSITIONS];
     let mut count: usize = 1;
     let mut i: usize = 0;
     while i < count {
@@ -167,11 +172,11 @@ fn verdict_of(null: bool, last: u32, set: u32) -> u8
 }
 
 // The verdicts of the first n sets, and 0 past them.
-fn verdicts(sets: &[u32; 64], n: usize, null: bool, last: u32) -> [u8; 64]
+fn verdicts(sets: &[u32; MOST_STATES], n: usize, null: bool, last: u32) -> Verdicts
     requires { ⌜ n ≤ mostStates ⌝ }
     ensures { λ r. ⌜ r ≡ verdictsFrom null last n (now (sets .entry)) ⌝ }
 {
-    let mut found = [0u8; 64];
+    let mut found = [0u8; MOST_STATES];
     let mut s: usize = 0;
     while s < n {
         found[s] = verdict_of(null, last, sets[s]);
@@ -194,8 +199,8 @@ pub fn table_of(shape: sets::Shape, events: usize, base: u32) -> Table
         return Table {
             over: true,
             states: 0,
-            next: [0u8; 1024],
-            verdicts: [0u8; 64],
+            next: [0u8; TRANSITIONS],
+            verdicts: [0u8; MOST_STATES],
         };
     }
     let found = g.sets;

@@ -3,7 +3,9 @@
 ghost use Rattle.judge.specs.Sound.{sessionOf};
 ghost use Rattle.moves.specs.Ready.{Steady};
 ghost use Rattle.steps.specs.Steps.{stepBy, Leaves};
-use combos::Combination;
+use limits::Combination;
+use limits::Transitions;
+use limits::Verdicts;
 use moves::Known;
 
 // What a call answers: the number of refusal, or 0; the rows of both tables that count now; and the reports made.
@@ -16,8 +18,8 @@ pub struct Answered {
 
 // Any event: worked out, then written down if there is room.
 fn foresee_then_write(
-    next: &[u8; 1024],
-    verdicts: &[u8; 64],
+    next: &Transitions,
+    verdicts: &Verdicts,
     known: Known,
     seen: &mut [u32],
     n: usize,
@@ -64,8 +66,8 @@ fn foresee_then_write(
 
 // One event in a session that is sound. Where it creates nothing and cannot be refused, one pass over the kept rows does it.
 pub fn step(
-    next: &[u8; 1024],
-    verdicts: &[u8; 64],
+    next: &Transitions,
+    verdicts: &Verdicts,
     known: Known,
     seen: &mut [u32],
     n: usize,

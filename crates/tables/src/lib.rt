@@ -1,8 +1,8 @@
 // Rows in order in a lent table (document 01, "One event"): a row put in among them. Above `combos`.
 // Interior: kept rows and reports are put in with it.
 ghost use Rattle.tables.specs.Tables.{Enterable, Entered};
-use combos::Combination;
-use combos::KEPT_STRIDE;
+use limits::Combination;
+use limits::KEPT_STRIDE;
 
 // Puts a row in among n rows in order, the first of which begins at `base`.
 pub fn enter(t: &mut [u32], base: usize, n: usize, c: Combination, s: u32)

@@ -9,6 +9,9 @@ ghost use Prim.Native.Nat.{_≤_};
 ghost use Rattle.document.specs.Limits.{mostEvents};
 ghost use Rattle.document.specs.Translate.{translate};
 ghost use Rattle.translate.specs.Translations.{refusedTable, translatedOf, Tables};
+use limits::MOST_EVENTS;
+use limits::MOST_STATES;
+use limits::TRANSITIONS;
 
 // What is translated: the table; or a refusal's number, its offset for 6 to 9, and a table of zeros.
 pub struct Translated {
@@ -25,9 +28,9 @@ fn refused_table(refusal: u8, at: usize) -> Translated
         events: 0,
         states: 0,
         asked: 0,
-        sets: [0u8; 16],
-        next: [0u8; 1024],
-        verdicts: [0u8; 64],
+        sets: [0u8; MOST_EVENTS],
+        next: [0u8; TRANSITIONS],
+        verdicts: [0u8; MOST_STATES],
     };
     Translated {
         refusal,

@@ -7,19 +7,23 @@ ghost use Rattle.steps.specs.Steps.{Leaves};
 ghost use Rattle.entries.specs.Entries.{declaredAt};
 ghost use Rattle.turns.specs.Stepping.{rowStepBy, RowGoes};
 ghost use Rattle.turns.specs.Turns.{RunLeaves, turnBy, Onward};
-use combos::KEPT_STRIDE;
+use limits::EventSets;
+use limits::KEPT_STRIDE;
+use limits::Places;
+use limits::Transitions;
+use limits::Verdicts;
 use moves::Known;
 use steps::Answered;
 
 // One row into a session that is sound: 18 to 21, then 15 to 17.
 pub fn step_row<'a, 'b, 'c>(
     text: &'a [u8],
-    starts: &'b [usize; 16],
-    sizes: &'b [usize; 16],
-    sets: &'b [u8; 16],
+    starts: &'b Places,
+    sizes: &'b Places,
+    sets: &'b EventSets,
     events: usize,
-    next: &'b [u8; 1024],
-    verdicts: &'b [u8; 64],
+    next: &'b Transitions,
+    verdicts: &'b Verdicts,
     known: Known,
     seen: &mut [u32],
     n: usize,
@@ -93,12 +97,12 @@ pub fn ran_to(
 // The row at the next offset of a run that has come so far: taken, or the refusal that stops the run before it.
 pub fn take_row<'a, 'b, 'c>(
     declarations: &'a [u8],
-    starts: &'b [usize; 16],
-    sizes: &'b [usize; 16],
-    sets: &'b [u8; 16],
+    starts: &'b Places,
+    sizes: &'b Places,
+    sets: &'b EventSets,
     events: usize,
-    next: &'b [u8; 1024],
-    verdicts: &'b [u8; 64],
+    next: &'b Transitions,
+    verdicts: &'b Verdicts,
     known: Known,
     seen: &mut [u32],
     kept: &mut [u32],

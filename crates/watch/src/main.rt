@@ -19,7 +19,7 @@ const LOG_ROOM: usize = 65536;
 // The rooms: 1,024 seen, 3,000 kept, 3,000 reports. The first two are the largest that a session has.
 const REPORTS: usize = 3000;
 
-const REPORT_NUMBERS: usize = REPORTS * lines::REPORT_STRIDE;
+const REPORT_NUMBERS: usize = REPORTS * limits::REPORT_STRIDE;
 
 // The lines of the fullest row, and as much again, so that many rows are printed in one piece.
 const LINES_ROOM: usize = 2 * REPORTS * lines::MOST_LINE;

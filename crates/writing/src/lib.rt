@@ -2,17 +2,19 @@
 // `foreseen` and `keeping`.
 // Interior: `write_down`, for an outcome that was foreseen and for which there is room.
 ghost use Rattle.writing.specs.Writing.{ReportReady, ReportedRow, Reportable, Reported, Tellable, Tells, WrittenDown};
-use combos::Combination;
-use combos::KEPT_STRIDE;
-use combos::WIDTH;
 use foreseen::Foreseen;
+use limits::Combination;
+use limits::KEPT_STRIDE;
+use limits::Transitions;
+use limits::Verdicts;
+use limits::WIDTH;
 use moves::Known;
 
 // Kept row i: its report, if it moves and its new verdict is asked for, is put in among `count` reports from a report number
 // on. Answers how many there are then.
 fn report_row(
-    next: &[u8; 1024],
-    verdicts: &[u8; 64],
+    next: &Transitions,
+    verdicts: &Verdicts,
     known: Known,
     seen: &[u32],
     n: usize,
@@ -46,8 +48,8 @@ fn report_row(
 
 // Every kept row. Answers how many reports there are.
 fn report(
-    next: &[u8; 1024],
-    verdicts: &[u8; 64],
+    next: &Transitions,
+    verdicts: &Verdicts,
     known: Known,
     seen: &[u32],
     n: usize,
@@ -87,8 +89,8 @@ fn report(
 
 // The reports, of which there are this many.
 fn tell(
-    next: &[u8; 1024],
-    verdicts: &[u8; 64],
+    next: &Transitions,
+    verdicts: &Verdicts,
     known: Known,
     seen: &[u32],
     n: usize,
@@ -124,8 +126,8 @@ fn tell(
 
 // Writes an outcome down for which there is room: the reports, the kept rows, and the binding as seen.
 pub fn write_down(
-    next: &[u8; 1024],
-    verdicts: &[u8; 64],
+    next: &Transitions,
+    verdicts: &Verdicts,
     known: Known,
     seen: &mut [u32],
     n: usize,
