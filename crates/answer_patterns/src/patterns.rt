@@ -124,7 +124,7 @@ fn events_at(s: &[u8], at: usize) -> Events {
 // The state that an event leads to.
 fn state_after(next: &Transitions, state: u8, event: u32) -> u8 {
     let at = wide(from_byte(state)) * limits::MOST_EVENTS + wide(event);
-    if 1024 <= at {
+    if limits::TRANSITIONS <= at {
         return 0;
     }
     next[at]
@@ -132,7 +132,7 @@ fn state_after(next: &Transitions, state: u8, event: u32) -> u8 {
 
 fn verdict_of(verdicts: &Verdicts, state: u8) -> u32 {
     let at = wide(from_byte(state));
-    if 64 <= at {
+    if limits::MOST_STATES <= at {
         return 0;
     }
     from_byte(verdicts[at])

@@ -4,8 +4,9 @@
 // Interior: the readers of the crate `pattern` build a pattern's shape with it, and `states` goes through its sets.
 ghost use mathlib.Core.Path.{_≡_};
 ghost use mathlib.Core.Bool.{cond, _||_, _&&_};
-ghost use Prim.Native.Nat.{_≤_, _<_};
+ghost use Prim.Native.Nat.{suc, _≤_, _<_};
 ghost use Rattle.document.specs.Patterns.{epsilon, name};
+ghost use Rattle.document.specs.Limits.{mostNames, mostEvents};
 ghost use Rattle.document.specs.Positions.{holds};
 ghost use Rattle.sets.specs.Shapes.{mergeOf, linkOf, shapeOf, eitherShape, thenShape, starShape, plusShape};
 use limits::MOST_EVENTS;
@@ -49,11 +50,11 @@ pub fn choose(c: bool, x: u32, y: u32) -> u32
 
 // The sets of a and b joined, number by number.
 fn merge(a: [u32; NUMBERS], b: [u32; NUMBERS]) -> [u32; NUMBERS]
-    ensures { λ r. ⌜ r ≡ mergeOf 32 a b ⌝ }
+    ensures { λ r. ⌜ r ≡ mergeOf (suc mostNames) a b ⌝ }
 {
     let mut r = a;
     let mut i: usize = 0;
-    while i < 32 {
+    while i < NUMBERS {
         r[i] = a[i] | b[i];
         i += 1;
     }
@@ -62,11 +63,11 @@ fn merge(a: [u32; NUMBERS], b: [u32; NUMBERS]) -> [u32; NUMBERS]
 
 // The same, event by event.
 fn merge_named(a: [u32; MOST_EVENTS], b: [u32; MOST_EVENTS]) -> [u32; MOST_EVENTS]
-    ensures { λ r. ⌜ r ≡ mergeOf 16 a b ⌝ }
+    ensures { λ r. ⌜ r ≡ mergeOf mostEvents a b ⌝ }
 {
     let mut r = a;
     let mut i: usize = 0;
-    while i < 16 {
+    while i < MOST_EVENTS {
         r[i] = a[i] | b[i];
         i += 1;
     }
@@ -79,7 +80,7 @@ fn link(a: [u32; NUMBERS], last: u32, first: u32) -> [u32; NUMBERS]
 {
     let mut r = a;
     let mut i: usize = 0;
-    while i < 32 {
+    while i < NUMBERS {
         r[i] = a[i] | choose(has(last, i), first, 0);
         i += 1;
     }
@@ -101,7 +102,7 @@ pub fn empty() -> Shape
 
 // The event name with the number n.
 pub fn leaf(n: usize, event: usize) -> Shape
-    requires { ⌜ (n ≤ 31) × (event < 16) ⌝ }
+    requires { ⌜ (n ≤ mostNames) × (event < mostEvents) ⌝ }
     ensures { λ r. ⌜ r ≡ shapeOf (name n event) ⌝ }
 {
     let set = 1u32 << n;

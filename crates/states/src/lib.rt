@@ -4,10 +4,10 @@
 //     table_of(shape, events, TOTAL) is the table over so many events, or says that there are more than 64 states.
 ghost use mathlib.Core.Path.{_≡_};
 ghost use mathlib.Core.Bool.{cond};
-ghost use Prim.Native.Nat.{_+_, _*_, _≤_, _<_};
+ghost use Prim.Native.Nat.{suc, _+_, _*_, _≤_, _<_};
 ghost use lib.ListN.{length, take};
 ghost use lib.Dec.{ltb};
-ghost use Rattle.document.specs.Limits.{mostEvents, mostStates};
+ghost use Rattle.document.specs.Limits.{mostNames, mostEvents, mostStates};
 ghost use Rattle.document.specs.States.{stateOf};
 ghost use Rattle.states.specs.Growing.{nextsOf, movesOf, verdictFrom, verdictsFrom, Row, Grows, Tabled};
 use limits::MOST_EVENTS;
@@ -48,7 +48,7 @@ pub struct Table {
 
 // The numbers that can come next after a number of a set.
 fn nexts(after: &[u32; NUMBERS], set: u32) -> u32
-    ensures { λ r. ⌜ r ≡ nextsOf (now (after .entry)) set 32 ⌝ }
+    ensures { λ r. ⌜ r ≡ nextsOf (now (after .entry)) set (suc mostNames) ⌝ }
 {
     let mut found = 0u32;
     let mut k: usize = 0;
