@@ -1,5 +1,5 @@
 // A row of a log: its event and values, or the refusal (document 01, "Log rows and the run"; refusals 18 to 21).
-// Interior: the calls of the crate `log` judge the declarations once and read each row with it.
+// Interior: the calls of `log` and `printing` judge the declarations once, and `turns` reads each row with it.
 ghost use mathlib.Core.Path.{_≡_};
 ghost use mathlib.Core.Bool.{cond};
 ghost use Prim.Native.Nat.{_+_, _≤_};

@@ -1,6 +1,6 @@
 // Rows of a text, fields of a row, and numbers in fields (document 01, "The declarations", "Log rows and the run").
 // Where a row ends and its fields stand is said here alone; `entries` counts a log row's commas in its pass for barred bytes,
-// `watch` looks for the last line end that it holds. The face: `field`.
+// `window` looks for the last line end that it holds. The face: `field`.
 //
 //     field(b"feed,1,7", 2) is the part `7` of the row; field(b"feed,1,7", 3) is the empty part at its start.
 ghost use mathlib.Core.Path.{_≡_};
