@@ -9,15 +9,15 @@ use lib.ListN.{length, take, drop}
 use lib.Dec.{leb, ltb}
 use borrow.Author.Tests.{ne-eqb, leb-true, ltb-true, not-false}
 use Rattle.document.specs.Limits.{width}
-use Rattle.document.specs.Refusals.{number, noRoomForSeen, noRoomForKept, noRoomForReports, Answer, taken, refused, refuseIf}
+use Rattle.document.specs.Refusals.{number, Answer, taken, refused}
 use Rattle.document.specs.RefusalsLaws.{number-some}
 use Rattle.document.specs.Rows.{firstRow}
-use Rattle.document.specs.Tables.{seenRoom, keptRoom, reportRoom, keptRows}
+use Rattle.document.specs.Tables.{keptRows}
 use Rattle.document.specs.Declarations.{Declared}
 use Rattle.document.specs.Session.{Session, Happened, seenOf, keptOf, leaves}
 use Rattle.document.specs.Log.{rowEvent, rowAt, nextAt}
 use Rattle.basics.specs.Lists.{length-tabulate}
-use Rattle.basics.specs.Answers.{past-test, past-call, taken-one}
+use Rattle.basics.specs.Answers.{past-call}
 use Rattle.reader.specs.HandingLaws.{next-at-end}
 use Rattle.slices.specs.TestsLaws.{so, true-of, and-of}
 use Rattle.slices.specs.MovesLaws.{length-reportsAfter}
@@ -27,10 +27,9 @@ use Rattle.lines.specs.Lines.{mostLine}
 use Rattle.lines.specs.LinesLaws.{refused-line-number}
 use Rattle.moves.specs.Steps.{stepOf, stateIn, outcomeBy}
 use Rattle.steps.specs.declared.Answered.{Answered}
-use Rattle.steps.specs.Steps.{withinRoomsBy, stepBy, answered, Leaves}
-use Rattle.writing.specs.Writing.{writtenBy}
+use Rattle.steps.specs.Steps.{stepBy, answered, Leaves}
 use Rattle.turns.specs.Stepping.{rowStepBy}
-use Rattle.turns.specs.TurnsLaws.{row-is, row-room}
+use Rattle.turns.specs.TurnsLaws.{row-is, step-made, row-room}
 use Rattle.printing.specs.declared.Printed.{Printed}
 use Rattle.rowlines.specs.RowLines.{mostLines, fitsRow, answerText, TextFits}
 use Rattle.rowlines.specs.RowLinesLaws.{lines-enough}
@@ -52,17 +51,9 @@ row-fits r log text f h q z =
 
 step-few : (next verdicts : List ℕ) (hopes asks from : ℕ) (s : Session) (reports : List ℕ) (e : ℕ) (b : List ℕ) (h : Happened)
     → stepBy next verdicts hopes asks from s reports e b ≡ taken h → h .reported ≤ s .keptCount
-unfolding stepBy withinRoomsBy writtenBy outcomeBy keptOf keptRows
+unfolding outcomeBy keptOf keptRows
 step-few next verdicts hopes asks from s reports e b h q =
-    let o = outcomeBy next hopes asks (seenOf s) (keptOf s) e b in
-    let x = ltb (seenRoom (s .seen)) (length (o .seen)) in
-    let y = ltb (keptRoom (s .kept)) (length (o .kept)) in
-    let z = ltb (reportRoom (drop from reports)) (length (o .rows)) in
-    let third = refuseIf z noRoomForReports (taken (writtenBy verdicts from s reports o)) in
-    let h₁ = past-test x noRoomForSeen (refuseIf y noRoomForKept third) h q in
-    let h₂ = past-test y noRoomForKept third h (h₁ .1) in
-    let h₃ = past-test z noRoomForReports (taken (writtenBy verdicts from s reports o)) h (h₂ .1) in
-    let c : length (o .rows) ≡ h .reported = ap (λ (u : Happened). u .reported) (taken-one (h₃ .1)) in
+    let c = step-made next verdicts hopes asks from s reports e b h q .1 in
     let f = length-reportsAfter width (stepOf next) e b (seenOf s) (keptOf s) (stateIn asks) in
     let k : length (keptOf s) ≡ s .keptCount = length-tabulate (s .keptCount) _ in
     omega arith

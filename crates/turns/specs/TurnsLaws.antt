@@ -62,11 +62,13 @@ step-taken (taken h) s reports x seen′ kept′ reports′ v z = record {
 step-taken (refused q o) s reports x seen′ kept′ reports′ v z =
     absurd (let k = number-some q in let e : x .refusal ≡ number q = ap (λ (y : Stepped). y .refusal) (v .says) in omega arith)
 
--- an accepted row's reports lie in the numbers lent
-step-room : (next verdicts : List ℕ) (hopes asks from : ℕ) (s : Session) (reports : List ℕ) (e : ℕ) (b : List ℕ) (h : Happened) → from ≤ length reports
-    → stepBy next verdicts hopes asks from s reports e b ≡ taken h → from + h .reported * reportStride ≤ length reports
-unfolding stepBy withinRoomsBy writtenBy reportRoom
-step-room next verdicts hopes asks from s reports e b h l q =
+-- the rows of an accepted step's outcome fit the room, and are its reports
+pub step-made : (next verdicts : List ℕ) (hopes asks from : ℕ) (s : Session) (reports : List ℕ) (e : ℕ) (b : List ℕ) (h : Happened)
+    → stepBy next verdicts hopes asks from s reports e b ≡ taken h
+    → (length (outcomeBy next hopes asks (seenOf s) (keptOf s) e b .rows) ≤ reportRoom (drop from reports))
+    × (length (outcomeBy next hopes asks (seenOf s) (keptOf s) e b .rows) ≡ h .reported)
+unfolding stepBy withinRoomsBy writtenBy
+step-made next verdicts hopes asks from s reports e b h q =
     let o = outcomeBy next hopes asks (seenOf s) (keptOf s) e b in
     let x = ltb (seenRoom (s .seen)) (length (o .seen)) in
     let y = ltb (keptRoom (s .kept)) (length (o .kept)) in
@@ -75,8 +77,17 @@ step-room next verdicts hopes asks from s reports e b h l q =
     let h₁ = past-test x noRoomForSeen (refuseIf y noRoomForKept third) h q in
     let h₂ = past-test y noRoomForKept third h (h₁ .1) in
     let h₃ = past-test z noRoomForReports (taken (writtenBy verdicts from s reports o)) h (h₂ .1) in
-    let f : length (o .rows) ≤ (length reports - from) / reportStride = rw length-drop at (ltb-false (reportRoom (drop from reports)) (length (o .rows)) (h₃ .0)) in
-    let c : length (o .rows) ≡ h .reported = ap (λ (u : Happened). u .reported) (taken-one (h₃ .1)) in
+    (ltb-false (reportRoom (drop from reports)) (length (o .rows)) (h₃ .0), ap (λ (u : Happened). u .reported) (taken-one (h₃ .1)))
+
+-- so they lie in the numbers lent
+step-room : (next verdicts : List ℕ) (hopes asks from : ℕ) (s : Session) (reports : List ℕ) (e : ℕ) (b : List ℕ) (h : Happened) → from ≤ length reports
+    → stepBy next verdicts hopes asks from s reports e b ≡ taken h → from + h .reported * reportStride ≤ length reports
+unfolding reportRoom
+step-room next verdicts hopes asks from s reports e b h l q =
+    let o = outcomeBy next hopes asks (seenOf s) (keptOf s) e b in
+    let m = step-made next verdicts hopes asks from s reports e b h q in
+    let f : length (o .rows) ≤ (length reports - from) / reportStride = rw length-drop at (m .0) in
+    let c = m .1 in
     omega arith
 
 pub row-room : (next verdicts : List ℕ) (hopes asks from : ℕ) (d : Declared) (s : Session) (reports row : List ℕ) (h : Happened) → from ≤ length reports
