@@ -310,13 +310,13 @@ fn lines_of_row(
 
 // Whether a word is that of one of these calls.
 pub fn knows(word: &[u8]) -> bool {
-    if rows::same(word, b"row") {
+    if fields::same(word, b"row") {
         return true;
     }
-    if rows::same(word, b"run") {
+    if fields::same(word, b"run") {
         return true;
     }
-    rows::same(word, b"lines")
+    fields::same(word, b"lines")
 }
 
 // The answer to the call of a word that is known, whose items begin at a place. `of_row` holds the reports of the last row.
@@ -333,10 +333,10 @@ pub fn answer(
     declared: &[u8],
     of_row: &mut [u32],
 ) -> Step {
-    if rows::same(word, b"row") {
+    if fields::same(word, b"row") {
         return row(s, at, out, filled, m, seen, kept, reports, declared, of_row);
     }
-    if rows::same(word, b"run") {
+    if fields::same(word, b"run") {
         return run(s, at, out, filled, m, seen, kept, reports, declared);
     }
     lines_of_row(s, at, out, filled, m, of_row)

@@ -200,10 +200,10 @@ fn verdicts(s: &[u8], at: usize, out: &mut [u8], filled: usize) -> Told {
 
 // The answer to the call of a word, whose items begin at a place.
 pub fn answer(word: &[u8], s: &[u8], at: usize, out: &mut [u8], filled: usize) -> Told {
-    if rows::same(word, b"translate") {
+    if fields::same(word, b"translate") {
         return translate(s, at, out, filled);
     }
-    if rows::same(word, b"verdicts") {
+    if fields::same(word, b"verdicts") {
         return verdicts(s, at, out, filled);
     }
     stuck(filled)

@@ -91,7 +91,7 @@ fn check(s: &[u8], at: usize, out: &mut [u8], filled: usize) -> Told {
 
 // The answer to the call of a word, whose items begin at a place.
 pub fn answer(word: &[u8], s: &[u8], at: usize, out: &mut [u8], filled: usize) -> Told {
-    if rows::same(word, b"check") {
+    if fields::same(word, b"check") {
         return check(s, at, out, filled);
     }
     stuck(filled)

@@ -347,16 +347,16 @@ fn grow(
 
 // Whether a word is that of one of these calls.
 pub fn knows(word: &[u8]) -> bool {
-    if rows::same(word, b"start") {
+    if fields::same(word, b"start") {
         return true;
     }
-    if rows::same(word, b"event") {
+    if fields::same(word, b"event") {
         return true;
     }
-    if rows::same(word, b"lookup") {
+    if fields::same(word, b"lookup") {
         return true;
     }
-    rows::same(word, b"grow")
+    fields::same(word, b"grow")
 }
 
 // The answer to the call of a word that is known, whose items begin at a place.
@@ -371,13 +371,13 @@ pub fn answer(
     kept: &mut [u32],
     reports: &mut [u32],
 ) -> Step {
-    if rows::same(word, b"start") {
+    if fields::same(word, b"start") {
         return start(s, at, out, filled, m, seen, kept, reports);
     }
-    if rows::same(word, b"event") {
+    if fields::same(word, b"event") {
         return event(s, at, out, filled, m, seen, kept, reports);
     }
-    if rows::same(word, b"lookup") {
+    if fields::same(word, b"lookup") {
         return lookup(s, at, out, filled, m, seen, kept, reports);
     }
     grow(s, at, out, filled, m, seen, kept, reports)

@@ -140,19 +140,19 @@ fn number_of_name(s: &[u8], at: usize, out: &mut [u8], filled: usize) -> Told {
 
 // The answer to the call of a word, whose items begin at a place.
 pub fn answer(word: &[u8], s: &[u8], at: usize, out: &mut [u8], filled: usize) -> Told {
-    if rows::same(word, b"declarations") {
+    if fields::same(word, b"declarations") {
         return judged(s, at, out, filled);
     }
-    if rows::same(word, b"header") {
+    if fields::same(word, b"header") {
         return header(s, at, out, filled);
     }
-    if rows::same(word, b"namebynumber") {
+    if fields::same(word, b"namebynumber") {
         return name_by_number(s, at, out, filled);
     }
-    if rows::same(word, b"namebyoffset") {
+    if fields::same(word, b"namebyoffset") {
         return name_by_offset(s, at, out, filled);
     }
-    if rows::same(word, b"numberofname") {
+    if fields::same(word, b"numberofname") {
         return number_of_name(s, at, out, filled);
     }
     stuck(filled)

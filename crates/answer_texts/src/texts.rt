@@ -43,7 +43,7 @@ fn field(s: &[u8], at: usize, out: &mut [u8], filled: usize) -> Told {
     }
     let start = row.start;
     let end = row.end;
-    let part = rows::field(&s[start..end], number.value);
+    let part = fields::field(&s[start..end], number.value);
     Told {
         next,
         filled: write::bytes(out, filled, part),
@@ -139,16 +139,16 @@ fn rows_of(s: &[u8], at: usize, out: &mut [u8], filled: usize) -> Told {
 
 // The answer to the call of a word, whose items begin at a place.
 pub fn answer(word: &[u8], s: &[u8], at: usize, out: &mut [u8], filled: usize) -> Told {
-    if rows::same(word, b"classes") {
+    if fields::same(word, b"classes") {
         return classes_of_all(s, at, out, filled);
     }
-    if rows::same(word, b"field") {
+    if fields::same(word, b"field") {
         return field(s, at, out, filled);
     }
-    if rows::same(word, b"rowat") {
+    if fields::same(word, b"rowat") {
         return rowat(s, at, out, filled);
     }
-    if rows::same(word, b"rows") {
+    if fields::same(word, b"rows") {
         return rows_of(s, at, out, filled);
     }
     stuck(filled)

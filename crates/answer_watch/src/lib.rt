@@ -151,7 +151,7 @@ fn watch(s: &[u8], at: usize, out: &mut [u8], filled: usize) -> Told {
 
 // The answer to the call of a word, whose items begin at a place; stuck if it is another group's.
 pub fn answer(word: &[u8], s: &[u8], at: usize, out: &mut [u8], filled: usize) -> Told {
-    if rows::same(word, b"watch") {
+    if fields::same(word, b"watch") {
         return watch(s, at, out, filled);
     }
     stuck(filled)

@@ -3,3 +3,4 @@ pub mod Lists
 pub mod Sets
 pub mod Answers
 pub mod Asked
+pub mod Left

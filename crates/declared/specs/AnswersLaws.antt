@@ -14,7 +14,7 @@ use Rattle.document.specs.Refusals.{headerDiffers, number, refusalOf}
 use Rattle.document.specs.Rows.{firstRow}
 use Rattle.document.specs.Declarations.{declarations, header, eventNameOf, eventName}
 use Rattle.rows.specs.TextLaws.{row-part}
-use Rattle.rows.specs.Places.{PartAt}
+use Rattle.fields.specs.Places.{PartAt}
 use Rattle.readings.specs.declared.Reading.{Reading}
 use Rattle.declared.specs.declared.Declared.{Declared as Judged}
 use Rattle.readings.specs.Readings.{padded, Reads}

@@ -6,7 +6,7 @@ ghost use mathlib.Core.Path.{_≡_};
 ghost use Prim.Native.Nat.{_+_};
 ghost use Rattle.document.specs.Refusals.{refusalOf};
 ghost use Rattle.document.specs.Declarations.{declarations, header, eventName, nameAt};
-ghost use Rattle.rows.specs.Places.{PartAt, placeFrom};
+ghost use Rattle.fields.specs.Places.{PartAt, placeFrom};
 ghost use Rattle.declared.specs.Answers.{declaredOf, eventStart};
 use limits::EventSets;
 use limits::MOST_EVENTS;
@@ -50,7 +50,7 @@ pub fn header(declarations: &[u8], row: &[u8]) -> u8
         return t.refusal;
     }
     let end = rows::row_end(declarations, 0);
-    if !rows::same(row, &declarations[0..end]) {
+    if !fields::same(row, &declarations[0..end]) {
         return refusals::HEADER_DIFFERS;
     }
     refusals::TAKEN
@@ -82,6 +82,6 @@ pub fn pattern_name<'a, 'b>(declarations: &'a [u8], pattern: &'b [u8], at: usize
     if !classes::is_letter(pattern[at]) {
         return &pattern[0..0];
     }
-    let end = fields::name_end(pattern, at);
+    let end = names::name_end(pattern, at);
     &pattern[at..end]
 }

@@ -15,9 +15,9 @@ use Rattle.document.specs.Rows.{fields, field, valueOf}
 use Rattle.document.specs.Declarations.{Declared}
 use Rattle.document.specs.Combinations.{bindsExactly}
 use Rattle.document.specs.Log.{isBadValue, valuesOf, rowEvent}
-use Rattle.rows.specs.Split.{upToComma}
-use Rattle.rows.specs.FieldsLaws.{fields-some}
-use Rattle.rows.specs.FieldsInTurn.{Reached, reached-first, reached-comma, reached-next, next-within, next-part}
+use Rattle.fields.specs.Split.{upToComma}
+use Rattle.fields.specs.FieldsLaws.{fields-some}
+use Rattle.fields.specs.FieldsInTurn.{Reached, reached-first, reached-comma, reached-next, next-within, next-part}
 use Rattle.entries.specs.declared.Entry.{Entry}
 use Rattle.entries.specs.declared.Value.{Value}
 use Rattle.entries.specs.declared.Values.{Values}

@@ -12,8 +12,8 @@ use Rattle.document.specs.Limits.{rowBytes}
 use Rattle.document.specs.Rows.{fields, field}
 use Rattle.document.specs.Combinations.{bindsExactly}
 use Rattle.document.specs.Log.{rowEvent}
-use Rattle.rows.specs.Split.{upToComma}
-use Rattle.rows.specs.SplitLaws.{walk-begins, walk-field}
+use Rattle.fields.specs.Split.{upToComma}
+use Rattle.fields.specs.SplitLaws.{walk-begins, walk-field}
 use Rattle.readings.specs.Readings.{namesAt}
 use Rattle.readings.specs.PlacesLaws.{names-length}
 use Rattle.entries.specs.declared.Entry.{Entry}

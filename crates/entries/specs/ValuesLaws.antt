@@ -20,8 +20,8 @@ use Rattle.document.specs.Log.{isBadValue, valuesOf}
 use Rattle.basics.specs.Tests.{decided}
 use Rattle.basics.specs.Lists.{zero-at}
 use Rattle.entries.specs.Entries.{isBarred}
-use Rattle.rows.specs.RowsLaws.{some-over, some-found, some-goes-on}
-use Rattle.rows.specs.FieldsInTurn.{commas, commas-here, commas-later, commas-over, fields-count}
+use Rattle.basics.specs.Left.{some-over, some-found, some-goes-on}
+use Rattle.fields.specs.FieldsInTurn.{commas, commas-here, commas-later, commas-over, fields-count}
 
 -- A byte that no row may hold.
 pub barred-cr : (b : ℕ) → b ≡ cr → true ≡ isBarred b

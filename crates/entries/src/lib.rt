@@ -8,7 +8,7 @@ ghost use Rattle.document.specs.Lists.{some};
 ghost use Rattle.document.specs.Limits.{width, mostEvents};
 ghost use Rattle.document.specs.Rows.{fields, valueOf};
 ghost use Rattle.document.specs.Log.{isBadValue, rowEvent};
-ghost use Rattle.rows.specs.Split.{upToComma};
+ghost use Rattle.fields.specs.Split.{upToComma};
 ghost use Rattle.readings.specs.Readings.{Inside};
 ghost use Rattle.entries.specs.Entries.{isBarred, valuesSaid, declaredAt, entryOf};
 use limits::Combination;
@@ -93,7 +93,7 @@ fn fields_said(row: &[u8]) -> usize
 fn value_said(f: &[u8]) -> Value
     ensures { λ r. ⌜ r ≡ record { bad = isBadValue (now (f .entry)); value = valueOf (now (f .entry)) } ⌝ }
 {
-    let value = rows::value_of(f);
+    let value = values::value_of(f);
     if value != 0 {
         return Value { bad: false, value };
     }
@@ -119,7 +119,7 @@ fn values_said(row: &[u8], from: usize, parameters: usize) -> Values
     let mut k: usize = 0;
     while k < parameters {
         let start = end + 1;
-        end = rows::field_end(row, start);
+        end = fields::field_end(row, start);
         let v = value_said(&row[start..end]);
         if v.bad {
             return Values {
@@ -168,7 +168,7 @@ pub fn read_row<'a, 'b, 'c>(
     if fields_said(row) != parameters + 1 {
         return refused(refusals::BAD_ROW);
     }
-    let end = rows::field_end(row, 0);
+    let end = fields::field_end(row, 0);
     let name = &row[0..end];
     let event = readings::find(text, starts, sizes, events, name);
     if events <= event {

@@ -1,2 +1,6 @@
-pub mod NamesLaws
-pub mod MarksLaws
+pub mod Split
+pub mod Places
+pub mod SplitLaws
+pub mod FieldsLaws
+pub mod FieldsInTurn
+pub mod SameLaws

@@ -1,26 +1,42 @@
-// Names and marks (document 01, "The declarations"): where name bytes end, what makes a name or a mark, and the same of all
-// fields of a declarations row that is split. It leans on `rows` and `classes`.
+// Fields of a row (document 01, "The declarations", "Log rows and the run"): where they stand, and whether two parts hold the
+// same bytes. `entries` counts a log row's commas in its pass for barred bytes. The face: `field`.
+//
+//     field(b"feed,1,7", 2) is the part `7` of the row; field(b"feed,1,7", 3) is the empty part at its start.
 ghost use mathlib.Core.Path.{_≡_};
-ghost use mathlib.Core.Bool.{cond};
-ghost use mathlib.Core.List.{[], _∷_};
 ghost use Prim.Native.Nat.{_+_, _≤_, _<_};
-ghost use lib.ListN.{length, drop};
-ghost use Rattle.document.specs.Lists.{every, equal, among, repeated, takeWhile};
-ghost use Rattle.document.specs.Classes.{isNameByte, oneByte};
-ghost use Rattle.document.specs.Rows.{fields, field};
-ghost use Rattle.document.specs.Declarations.{isName, isMark, setFrom};
-ghost use Rattle.rows.specs.Split.{mostFields, Split};
+ghost use lib.ListN.{drop};
+ghost use Rattle.document.specs.Lists.{equal};
+ghost use Rattle.document.specs.Rows.{field};
+ghost use Rattle.fields.specs.Split.{upToComma, mostFields, Split, added};
+ghost use Rattle.fields.specs.Places.{PartAt, fieldPart};
+use limits::MOST_FIELDS;
 
-// At most so many bytes has a name.
-pub const NAME_BYTES: usize = 32;
+const COMMA: u8 = 44;
 
-// Where the name bytes from a place on end.
-pub fn name_end(s: &[u8], at: usize) -> usize
-    ensures { λ r. ⌜ r ≡ at + length (takeWhile isNameByte (drop at (now (s .entry)))) ⌝ }
+// Whether two parts hold the same bytes.
+pub fn same(a: &[u8], b: &[u8]) -> bool
+    ensures { λ r. ⌜ r ≡ equal (now (a .entry)) (now (b .entry)) ⌝ }
 {
-    let mut i = at;
-    while i < s.len() {
-        if !classes::is_name_byte(s[i]) {
+    if a.len() != b.len() {
+        return false;
+    }
+    let mut i: usize = 0;
+    while i < a.len() {
+        if a[i] != b[i] {
+            return false;
+        }
+        i += 1;
+    }
+    true
+}
+
+// Where the field that begins at a place ends: its comma, or the row's end.
+pub fn field_end(row: &[u8], start: usize) -> usize
+    ensures { λ r. ⌜ r ≡ start + upToComma (drop start (now (row .entry))) ⌝ }
+{
+    let mut i = start;
+    while i < row.len() {
+        if row[i] == COMMA {
             return i;
         }
         i += 1;
@@ -28,119 +44,75 @@ pub fn name_end(s: &[u8], at: usize) -> usize
     i
 }
 
-pub fn is_name(f: &[u8]) -> bool
-    ensures { λ r. ⌜ r ≡ isName (now (f .entry)) ⌝ }
+// A field of a row, as that part of it; where there is none, the empty part at the start.
+pub fn field(row: &[u8], number: usize) -> &[u8]
+    ensures { λ r. ⌜ PartAt (row .entry) (fieldPart (now (row .entry)) number .start) (field (now (row .entry)) number) r ⌝ }
 {
-    if f.len() == 0 {
-        return false;
-    }
-    if NAME_BYTES < f.len() {
-        return false;
-    }
-    if !classes::is_letter(f[0]) {
-        return false;
-    }
-    name_end(f, 1) == f.len()
-}
-
-pub fn is_one(f: &[u8]) -> bool
-    ensures { λ r. ⌜ r ≡ equal (now (f .entry)) (oneByte ∷ []) ⌝ }
-{
-    rows::same(f, b"1")
-}
-
-pub fn is_mark(f: &[u8]) -> bool
-    ensures { λ r. ⌜ r ≡ isMark (now (f .entry)) ⌝ }
-{
-    if rows::same(f, b"0") {
-        return true;
-    }
-    is_one(f)
-}
-
-// What a mark adds to a set: the bit of its parameter, if it is `1`.
-pub fn worth(f: &[u8], bit: u8) -> u8
-    ensures { λ r. ⌜ r ≡ cond (equal (now (f .entry)) (oneByte ∷ [])) bit 0 ⌝ }
-{
-    if is_one(f) {
-        return bit;
-    }
-    0
-}
-
-// Whether every field after the first is a name.
-pub fn all_names(row: &[u8], f: rows::Fields) -> bool
-    requires { ⌜ Split (now row) f × (f .count ≤ mostFields) ⌝ }
-    ensures { λ r. ⌜ r ≡ every isName (drop 1 (fields (now (row .entry)))) ⌝ }
-{
-    let mut k: usize = 1;
-    while k < f.count {
-        if !is_name(rows::field_at(row, f, k)) {
-            return false;
+    let mut start: usize = 0;
+    let mut end = field_end(row, start);
+    let mut left = number;
+    while 0 < left {
+        if row.len() <= end {
+            return &row[0..0];
         }
-        k += 1;
+        start = end + 1;
+        end = field_end(row, start);
+        left -= 1;
     }
-    true
+    &row[start..end]
 }
 
-// Whether every field after the first is a mark.
-pub fn all_marks(row: &[u8], f: rows::Fields) -> bool
-    requires { ⌜ Split (now row) f × (f .count ≤ mostFields) ⌝ }
-    ensures { λ r. ⌜ r ≡ every isMark (drop 1 (fields (now (row .entry)))) ⌝ }
-{
-    let mut k: usize = 1;
-    while k < f.count {
-        if !is_mark(rows::field_at(row, f, k)) {
-            return false;
-        }
-        k += 1;
-    }
-    true
+// The fields of a row: how many there are, counted no further than one past what a row can have, and where those that it
+// can have start and how long they are.
+pub struct Fields {
+    pub count: usize,
+    pub starts: [usize; MOST_FIELDS],
+    pub sizes: [usize; MOST_FIELDS],
 }
 
-// Whether a field stands again later in the row.
-pub fn stands_again(row: &[u8], f: rows::Fields, at: usize) -> bool
-    requires { ⌜ Split (now row) f × ((at < f .count) × (f .count ≤ mostFields)) ⌝ }
-    ensures { λ r. ⌜ r ≡ among (field (now (row .entry)) at) (drop (at + 1) (fields (now (row .entry)))) ⌝ }
+// The fields with one more.
+fn with_field(f: Fields, start: usize, size: usize) -> Fields
+    ensures { λ r. ⌜ r ≡ added f (record { start = start; size = size }) ⌝ }
 {
-    let name = rows::field_at(row, f, at);
-    let mut k = at + 1;
-    while k < f.count {
-        if rows::same(name, rows::field_at(row, f, k)) {
-            return true;
-        }
-        k += 1;
+    let at = f.count;
+    let mut g = f;
+    if MOST_FIELDS <= at {
+        g.count = MOST_FIELDS + 1;
+        return g;
     }
-    false
+    g.count = at + 1;
+    g.starts[at] = start;
+    g.sizes[at] = size;
+    g
 }
 
-// Whether some field after the first stands twice.
-pub fn has_repeat(row: &[u8], f: rows::Fields) -> bool
-    requires { ⌜ Split (now row) f × (f .count ≤ mostFields) ⌝ }
-    ensures { λ r. ⌜ r ≡ repeated (drop 1 (fields (now (row .entry)))) ⌝ }
+// All fields of a row, found in one pass.
+pub fn split(row: &[u8]) -> Fields
+    ensures { λ r. ⌜ Split (now (row .entry)) r ⌝ }
 {
-    let mut k: usize = 1;
-    while k < f.count {
-        if stands_again(row, f, k) {
-            return true;
-        }
-        k += 1;
+    let none = Fields {
+        count: 0,
+        starts: [0; MOST_FIELDS],
+        sizes: [0; MOST_FIELDS],
+    };
+    let mut start: usize = 0;
+    let mut end = field_end(row, start);
+    let mut f = with_field(none, start, end - start);
+    while end < row.len() {
+        start = end + 1;
+        end = field_end(row, start);
+        let g = with_field(f, start, end - start);
+        f = g;
     }
-    false
+    f
 }
 
-// The set that the marks of an event's row say.
-pub fn set_of(row: &[u8], f: rows::Fields) -> u8
-    requires { ⌜ Split (now row) f × (f .count ≤ mostFields) ⌝ }
-    ensures { λ r. ⌜ r ≡ setFrom 0 (drop 1 (fields (now (row .entry)))) ⌝ }
+// A field of a row that was split, as that part of the row.
+pub fn field_at(row: &[u8], f: Fields, k: usize) -> &[u8]
+    requires { ⌜ Split (now row) f × ((k < f .count) × (f .count ≤ mostFields)) ⌝ }
+    ensures { λ r. ⌜ now r ≡ field (now (row .entry)) k ⌝ }
 {
-    let mut set: u8 = 0;
-    let mut bit: u8 = 1;
-    let mut k: usize = 1;
-    while k < f.count {
-        set += worth(rows::field_at(row, f, k), bit);
-        bit *= 2;
-        k += 1;
-    }
-    set
+    let start = f.starts[k];
+    let end = start + f.sizes[k];
+    &row[start..end]
 }

@@ -23,7 +23,7 @@ use Rattle.document.specs.Declarations.{Declared, isName, isMark, headerRow, ev
 use Rattle.document.specs.Printing.{lineEnd, withCommas, line}
 use Rattle.basics.specs.Tests.{decided, and-left, and-right, equal-same}
 use Rattle.basics.specs.Answers.{taken-one, past-test, past-call}
-use Rattle.rows.specs.SplitLaws.{parts-first}
+use Rattle.fields.specs.SplitLaws.{parts-first}
 use Rattle.rows.specs.TextLaws.{first-part, first-within}
 use Rattle.decimals.specs.Written.{Written}
 use Rattle.decimals.specs.WrittenLaws.{written-then, written-as, written-within}

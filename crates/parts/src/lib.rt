@@ -64,7 +64,7 @@ pub fn word<'a, 'b, 'c>(
     let end = t.end;
     let name = &text[at..end];
     let number = names + 1;
-    if rows::same(name, b"epsilon") {
+    if fields::same(name, b"epsilon") {
         let shape = sets::empty();
         return taken_at(t.next, names, shape);
     }

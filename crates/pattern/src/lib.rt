@@ -179,7 +179,7 @@ fn is_ere(text: &[u8], at: usize, t: tokens::Step) -> bool
         return false;
     }
     let end = t.end;
-    rows::same(&text[at..end], b"ere")
+    fields::same(&text[at..end], b"ere")
 }
 
 // The verdict that a token of this kind asks for.

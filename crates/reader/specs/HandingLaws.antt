@@ -14,9 +14,10 @@ use borrow.Author.Tests.{le-leb, lt-leb, leb-true, leb-false, ne-eqb}
 use Rattle.document.specs.Rows.{endsRow, firstRow}
 use Rattle.document.specs.Log.{handed, noRow, handsOut, rowAt, nextAt}
 use Rattle.basics.specs.Tests.{decided}
-use Rattle.rows.specs.RowsLaws.{drop-end, first-ends, first-more, next-more, next-none}
+use Rattle.basics.specs.Left.{drop-end}
+use Rattle.rows.specs.RowsLaws.{first-ends, first-more, next-more, next-none}
 use Rattle.rows.specs.TextLaws.{first-part}
-use Rattle.rows.specs.Places.{PartAt, Lies, placeFrom}
+use Rattle.fields.specs.Places.{PartAt, Lies, placeFrom}
 use Rattle.reader.specs.declared.Place.{Place}
 use Rattle.reader.specs.Handing.{isThere, bytesOf, positionAfter, HandsOut, placeAt}
 

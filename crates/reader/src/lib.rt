@@ -7,7 +7,7 @@
 ghost use mathlib.Core.Path.{_≡_};
 ghost use Prim.Native.Nat.{_-_};
 ghost use lib.ListN.{take, drop};
-ghost use Rattle.rows.specs.Places.{PartAt, Lies, placeFrom};
+ghost use Rattle.fields.specs.Places.{PartAt, Lies, placeFrom};
 ghost use Rattle.reader.specs.Handing.{placeAt, HandsOut};
 
 // The log, and where its next row begins. Past the log's end there is none.

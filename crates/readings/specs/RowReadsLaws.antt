@@ -16,10 +16,10 @@ use Rattle.document.specs.Refusals.{Answer, taken, refused, refusalOf}
 use Rattle.document.specs.Rows.{firstRow, fields, field}
 use Rattle.document.specs.Declarations.{Declared, setFrom, eventRow}
 use Rattle.basics.specs.Tests.{decided}
-use Rattle.rows.specs.declared.Fields.{Fields}
+use Rattle.fields.specs.declared.Fields.{Fields}
 use Rattle.rows.specs.TextLaws.{row-part, row-within}
-use Rattle.rows.specs.Split.{Split}
-use Rattle.rows.specs.FieldsLaws.{split-at, split-some, split-first}
+use Rattle.fields.specs.Split.{Split}
+use Rattle.fields.specs.FieldsLaws.{split-at, split-some, split-first}
 use Rattle.readings.specs.declared.Reading.{Reading}
 use Rattle.readings.specs.Readings.{Inside, Placed, said, noneRead, oneMore, RowAs, Follows, RowReads}
 use Rattle.readings.specs.PlacesLaws.{names-more}

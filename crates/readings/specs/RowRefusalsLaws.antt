@@ -17,9 +17,9 @@ use Rattle.document.specs.Classes.{eventWord, epsilonWord}
 use Rattle.document.specs.Rows.{stray, fields, field}
 use Rattle.document.specs.Declarations.{Declared, isName, isMark, setFrom, headerRow, eventRow}
 use Rattle.basics.specs.Tests.{decided}
-use Rattle.rows.specs.declared.Fields.{Fields}
-use Rattle.rows.specs.Split.{mostFields, Split}
-use Rattle.rows.specs.FieldsLaws.{split-counts, fields-some}
+use Rattle.fields.specs.declared.Fields.{Fields}
+use Rattle.fields.specs.Split.{mostFields, Split}
+use Rattle.fields.specs.FieldsLaws.{split-counts, fields-some}
 use Rattle.readings.specs.declared.Reading.{Reading}
 use Rattle.readings.specs.Readings.{namesAt, Placed, said}
 use Rattle.readings.specs.PlacesLaws.{names-length, among-place}

@@ -19,10 +19,10 @@ use Rattle.document.specs.Log.{nextAt}
 use Rattle.document.specs.Declarations.{Declared, headerRow, eventRow, eventRows, noEvents, declarations}
 use Rattle.basics.specs.Tests.{decided}
 use Rattle.basics.specs.Lists.{zero-at}
-use Rattle.rows.specs.declared.Fields.{Fields}
+use Rattle.fields.specs.declared.Fields.{Fields}
 use Rattle.rows.specs.TextLaws.{row-part, rows-over, rows-next, drop-next, next-later}
-use Rattle.rows.specs.Split.{Split}
-use Rattle.rows.specs.FieldsLaws.{split-counts}
+use Rattle.fields.specs.Split.{Split}
+use Rattle.fields.specs.FieldsLaws.{split-counts}
 use Rattle.readings.specs.declared.Reading.{Reading}
 use Rattle.readings.specs.Readings.{padded, Stands, ReadAs, rowStart, AtRows, Reads, Placed, said, noneRead, RowAs, Follows, RowReads}
 use Rattle.readings.specs.PlacesLaws.{names-length, names-none}

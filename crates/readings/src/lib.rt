@@ -7,7 +7,7 @@ ghost use Rattle.document.specs.Lists.{placeOf};
 ghost use Rattle.document.specs.Limits.{mostEvents};
 ghost use Rattle.document.specs.Refusals.{refusalOf};
 ghost use Rattle.document.specs.Declarations.{headerRow, eventRow};
-ghost use Rattle.rows.specs.Split.{Split};
+ghost use Rattle.fields.specs.Split.{Split};
 ghost use Rattle.readings.specs.Readings.{namesAt, Inside, Reads, Placed, said, noneRead, oneMore, RowReads};
 use limits::EventSets;
 use limits::MOST_EVENTS;
@@ -43,7 +43,7 @@ pub fn find<'a, 'b, 'c>(
     while k < count {
         let start = starts[k];
         let end = start + sizes[k];
-        if rows::same(name, &text[start..end]) {
+        if fields::same(name, &text[start..end]) {
             return k;
         }
         k += 1;
@@ -52,7 +52,7 @@ pub fn find<'a, 'b, 'c>(
 }
 
 // The refusal of the declarations' header: 5, 2, 3, 4 in this order.
-fn header_refusal(row: &[u8], f: rows::Fields) -> u8
+fn header_refusal(row: &[u8], f: fields::Fields) -> u8
     requires { ⌜ Split (now row) f ⌝ }
     ensures { λ r. ⌜ r ≡ refusalOf (headerRow (now (row .entry))) ⌝ }
 {
@@ -62,20 +62,20 @@ fn header_refusal(row: &[u8], f: rows::Fields) -> u8
     if rows::has_stray(row) {
         return refusals::BAD_SHAPE;
     }
-    if !rows::same(rows::field(row, 0), b"event") {
+    if !fields::same(fields::field(row, 0), b"event") {
         return refusals::BAD_SHAPE;
     }
-    if !fields::all_names(row, f) {
+    if !names::all_names(row, f) {
         return refusals::BAD_NAME;
     }
-    if fields::has_repeat(row, f) {
+    if names::has_repeat(row, f) {
         return refusals::NAME_TWICE;
     }
     refusals::TAKEN
 }
 
 // The refusal of an event's row after those read so far: 5, 2, 3, 4 in this order.
-fn event_refusal(text: &[u8], t: Reading, row: &[u8], f: rows::Fields) -> u8
+fn event_refusal(text: &[u8], t: Reading, row: &[u8], f: fields::Fields) -> u8
     requires { ⌜ Placed (now text) t × Split (now row) f ⌝ }
     ensures { λ r. ⌜ r ≡ refusalOf (eventRow (said (now (text .entry)) t) (now (row .entry))) ⌝ }
 {
@@ -88,14 +88,14 @@ fn event_refusal(text: &[u8], t: Reading, row: &[u8], f: rows::Fields) -> u8
     if f.count != t.parameters + 1 {
         return refusals::BAD_SHAPE;
     }
-    if !fields::all_marks(row, f) {
+    if !names::all_marks(row, f) {
         return refusals::BAD_SHAPE;
     }
-    let name = rows::field_at(row, f, 0);
-    if !fields::is_name(name) {
+    let name = fields::field_at(row, f, 0);
+    if !names::is_name(name) {
         return refusals::BAD_NAME;
     }
-    if rows::same(name, b"epsilon") {
+    if fields::same(name, b"epsilon") {
         return refusals::BAD_NAME;
     }
     let starts = t.starts;
@@ -141,13 +141,13 @@ fn with_row(text: &[u8], at: usize, t: Reading) -> Reading
 {
     let end = rows::row_end(text, at);
     let row = &text[at..end];
-    let f = rows::split(row);
+    let f = fields::split(row);
     let refusal = event_refusal(text, t, row, f);
     if refusal != refusals::TAKEN {
         return none_read(refusal, 0);
     }
     let start = at + f.starts[0];
-    one_more(t, start, f.sizes[0], fields::set_of(row, f))
+    one_more(t, start, f.sizes[0], names::set_of(row, f))
 }
 
 // Declarations as they stand in their text.
@@ -159,7 +159,7 @@ pub fn read(text: &[u8]) -> Reading
     }
     let end = rows::row_end(text, 0);
     let row = &text[0..end];
-    let f = rows::split(row);
+    let f = fields::split(row);
     let refusal = header_refusal(row, f);
     if refusal != refusals::TAKEN {
         return none_read(refusal, 0);

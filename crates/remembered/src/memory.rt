@@ -202,25 +202,25 @@ pub fn set(
     reports: &mut [u32],
     declared: &mut [u8],
 ) -> Remembered {
-    if rows::same(word, b"property") {
+    if fields::same(word, b"property") {
         return set_property(s, at, m);
     }
-    if rows::same(word, b"declare") {
+    if fields::same(word, b"declare") {
         return set_declared(s, at, m, declared);
     }
-    if rows::same(word, b"pattern") {
+    if fields::same(word, b"pattern") {
         return set_by_pattern(s, at, m, declared);
     }
-    if rows::same(word, b"seen") {
+    if fields::same(word, b"seen") {
         return set_seen(s, at, m, seen);
     }
-    if rows::same(word, b"kept") {
+    if fields::same(word, b"kept") {
         return set_kept(s, at, m, kept);
     }
-    if rows::same(word, b"reports") {
+    if fields::same(word, b"reports") {
         return set_reports(s, at, m, reports);
     }
-    if rows::same(word, b"fill") {
+    if fields::same(word, b"fill") {
         return fill(s, at, m, seen, kept, reports);
     }
     in_mind(read::STUCK, m)

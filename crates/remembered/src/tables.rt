@@ -108,13 +108,13 @@ pub fn answer(
     if next == read::STUCK {
         return stuck(filled);
     }
-    if rows::same(word, b"tables") {
+    if fields::same(word, b"tables") {
         return Told {
             next,
             filled: tables(out, filled, m, seen, kept, reports),
         };
     }
-    if rows::same(word, b"digest") {
+    if fields::same(word, b"digest") {
         return Told {
             next,
             filled: digest(out, filled, m, seen, kept, reports),

@@ -1,10 +1,4 @@
-pub mod Split
-pub mod Places
 pub mod RowsLaws
 pub mod TextLaws
-pub mod SplitLaws
-pub mod ValueLaws
-pub mod FieldsLaws
-pub mod FieldsInTurn
 pub mod RunsOfRows
 pub mod BuffersOfRows

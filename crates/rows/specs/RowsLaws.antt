@@ -4,26 +4,17 @@
 use Prim.Native.Nat.{ℕ, _+_, _≤_, _<_}
 use mathlib.Core.Path.{_≡_, refl, sym, ap, _∙_}
 use mathlib.Core.Logic.{inl, inr}
-use mathlib.Core.Bool.{Bool, true, false, _&&_, _||_, and-false}
+use mathlib.Core.Bool.{Bool, true, false, _&&_, _||_}
 use mathlib.Core.List.{List, [], _∷_}
-use lib.ListN.{length, getD, drop, drop-of-length-le, length-drop}
-use lib.Seq.{drop-cons}
+use lib.ListN.{length, getD, drop, length-drop}
 use lib.Dec.{eqb}
 use native.Mathlib.Omega.{arith}
-use native.Mathlib.Numerals.{add-one}
 use borrow.Author.Tests.{eq-eqb, ne-eqb}
-use Rattle.document.specs.Lists.{some, equal}
 use Rattle.document.specs.Classes.{cr, lf}
 use Rattle.document.specs.Rows.{endsRow, firstRow, afterRow, stray}
 use Rattle.document.specs.Log.{nextAt}
 use Rattle.basics.specs.Tests.{decided}
-
--- what is left from a place inside is the element there and what is left after it
-pub drop-here : (s : List ℕ) (i : ℕ) → i < length s → drop i s ≡ getD s i 0 ∷ drop (i + 1) s
-drop-here s i h = rw (add-one, drop-cons s i 0 h)
-
-pub drop-end : (s : List ℕ) (i : ℕ) → length s ≤ i → drop i s ≡ []
-drop-end s i h = drop-of-length-le s h
+use Rattle.basics.specs.Left.{drop-here, drop-end, some-over, some-found, some-goes-on}
 
 -- A row's end: at the end of the text, at a line end, at any other byte.
 pub row-over : (s : List ℕ) (i : ℕ) → length s ≤ i → firstRow (drop i s) ≡ []
@@ -91,41 +82,6 @@ after-last (b ∷ t) h = elim (decided (endsRow b t)) [
       rw (after-more b t e) (after-last t m)
 ]
 
--- A test over all bytes: none left, one that passes, one that does not.
-pub some-over : (p : ℕ → Bool) (s : List ℕ) (i : ℕ) → length s ≤ i → some p (drop i s) ≡ false
-unfolding some
-some-over p s i h = rw (drop-end s i h)
-
-pub some-found : (p : ℕ → Bool) (s : List ℕ) (i : ℕ) → i < length s → p (getD s i 0) ≡ true → some p (drop i s) ≡ true
-unfolding some
-some-found p s i h e = rw (drop-here s i h, e)
-
-pub some-goes-on : (p : ℕ → Bool) (s : List ℕ) (i : ℕ) → i < length s → p (getD s i 0) ≡ false → some p (drop i s) ≡ some p (drop (i + 1) s)
-unfolding some
-some-goes-on p s i h e = rw (drop-here s i h, e)
-
--- Two parts: at the end of both, at two bytes that differ, at two that are the same; and of two lengths.
-pub equal-over : (a b : List ℕ) (i : ℕ) → length a ≡ length b → length a ≤ i → equal (drop i a) (drop i b) ≡ true
-unfolding equal
-equal-over a b i q h = rw (drop-end a i h, drop-end b i (omega arith))
-
-pub equal-differs : (a b : List ℕ) (i : ℕ) → length a ≡ length b → i < length a → (getD a i 0 ≡ getD b i 0 → ⊥)
-    → equal (drop i a) (drop i b) ≡ false
-unfolding equal
-equal-differs a b i q h d = rw (drop-here a i h, drop-here b i (omega arith), ne-eqb (getD a i 0) (getD b i 0) d)
-
-pub equal-goes-on : (a b : List ℕ) (i : ℕ) → length a ≡ length b → i < length a → getD a i 0 ≡ getD b i 0
-    → equal (drop i a) (drop i b) ≡ equal (drop (i + 1) a) (drop (i + 1) b)
-unfolding equal
-equal-goes-on a b i q h e = rw (drop-here a i h, drop-here b i (omega arith), eq-eqb (getD a i 0) (getD b i 0) e)
-
-pub equal-lengths : (a b : List ℕ) → (length a ≡ length b → ⊥) → equal a b ≡ false
-unfolding equal
-equal-lengths [] [] h = absurd (h refl)
-equal-lengths [] (y ∷ b) h = refl
-equal-lengths (x ∷ a) [] h = refl
-equal-lengths (x ∷ a) (y ∷ b) h = rw (equal-lengths a b (λ (e : length a ≡ length b). h (omega arith))) (and-false (eqb x y))
-
 -- The turns of the loop that looks for a row's end, from the place `at` on.
 pub row-end-found : (s : List ℕ) (at i : ℕ) → i + length (firstRow (drop i s)) ≡ at + length (firstRow (drop at s)) → i < length s
     → (e : Bool) → e ≡ endsRow (getD s i 0) (drop (i + 1) s) → e ≡ true → i ≡ at + length (firstRow (drop at s))
@@ -177,15 +133,3 @@ stray-turn s i q h n m = sym (some-goes-on (λ b. eqb b cr || eqb b lf) s i h (r
 pub stray-over : (s : List ℕ) (i : ℕ) → stray (drop i s) ≡ stray s → length s ≤ i → false ≡ stray s
 unfolding stray
 stray-over s i q h = sym (some-over (λ b. eqb b cr || eqb b lf) s i h) ∙ q
-
--- The turns of the loop that compares two parts.
-pub same-differs : (a b : List ℕ) (i : ℕ) → equal (drop i a) (drop i b) ≡ equal a b → length a ≡ length b → i < length a
-    → (getD a i 0 ≡ getD b i 0 → ⊥) → false ≡ equal a b
-same-differs a b i q l h d = sym (equal-differs a b i l h d) ∙ q
-
-pub same-turn : (a b : List ℕ) (i : ℕ) → equal (drop i a) (drop i b) ≡ equal a b → length a ≡ length b → i < length a
-    → getD a i 0 ≡ getD b i 0 → equal (drop (i + 1) a) (drop (i + 1) b) ≡ equal a b
-same-turn a b i q l h e = sym (equal-goes-on a b i l h e) ∙ q
-
-pub same-over : (a b : List ℕ) (i : ℕ) → equal (drop i a) (drop i b) ≡ equal a b → length a ≡ length b → length a ≤ i → true ≡ equal a b
-same-over a b i q l h = sym (equal-over a b i l h) ∙ q

@@ -11,7 +11,8 @@ use native.Mathlib.Omega.{arith}
 use Rattle.document.specs.Rows.{endsRow, firstRow, afterRow, rowsWithin, rows}
 use Rattle.document.specs.Log.{nextAt}
 use Rattle.basics.specs.Tests.{decided}
-use Rattle.rows.specs.RowsLaws.{drop-here, drop-end, first-ends, first-more, after-ends, after-more, ends-two}
+use Rattle.basics.specs.Left.{drop-here, drop-end}
+use Rattle.rows.specs.RowsLaws.{first-ends, first-more, after-ends, after-more, ends-two}
 
 -- a row is the part of the text from its start on that is as long as it
 pub first-within : (t : List ℕ) → length (firstRow t) ≤ length t

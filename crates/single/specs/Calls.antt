@@ -32,8 +32,8 @@ use Rattle.session.proofs.lookup.Reads as lookup
 use Rattle.turns.specs.declared.Ran.{Ran}
 use Rattle.log.proofs.row.Reads as row
 use Rattle.log.proofs.run.Reads as run
-use Rattle.rows.specs.Places.{Lies, placeFrom}
-use Rattle.rows.proofs.field.Reads as field
+use Rattle.fields.specs.Places.{Lies, placeFrom}
+use Rattle.fields.proofs.field.Reads as field
 use Rattle.reader.specs.declared.Reader.{Reader}
 use Rattle.reader.specs.declared.Row.{Row}
 use Rattle.reader.specs.declared.Place.{Place}
@@ -160,7 +160,7 @@ module _ (κs : Lfts 5) (declarations : Lent) (p : Property) (seen : Lent) (n : 
       → (r ≡ q) × (seen′ ≡ seen″) × (kept′ ≡ kept″) × (reports′ ≡ reports″)
   row-single r q seen′ seen″ kept′ kept″ reports′ reports″ x y = leaves-single x y
 
--- rows::field(row, number): the bytes of the part, and where it lies (`ptr`)
+-- fields::field(row, number): the bytes of the part, and where it lies (`ptr`)
 module _ (κs : Lfts 1) (bytes : Lent) (number : ℕ) where
   abbrev pub FieldPromise : Lent → Type 0
   FieldPromise r = field.Learnt κs (bytes, (number, tt)) r (bytes, (number, tt))

@@ -8,7 +8,7 @@ use denote.Ref.{RefT}
 use Rattle.document.specs.Refusals.{Answer}
 use Rattle.document.specs.Session.{Session, Happened}
 use Rattle.document.specs.Log as document
-use Rattle.rows.specs.Places.{PartAt}
+use Rattle.fields.specs.Places.{PartAt}
 use Rattle.steps.specs.declared.Answered.{Answered}
 use Rattle.session.specs.Calls.{StartLeaves}
 use Rattle.steps.specs.Steps.{Leaves}

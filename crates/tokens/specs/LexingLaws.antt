@@ -12,7 +12,7 @@ use Rattle.document.specs.Lists.{takeWhile, startsWith}
 use Rattle.document.specs.Classes.{classOf, isNameByte, letter, atSign, opening, plus, matchWord, failWord}
 use Rattle.document.specs.Declarations.{nameRun}
 use Rattle.document.specs.Tokens.{askToken, tokenAt}
-use Rattle.rows.specs.RowsLaws.{drop-here, drop-end}
+use Rattle.basics.specs.Left.{drop-here, drop-end}
 use Rattle.tokens.specs.declared.Token.{Token}
 use Rattle.tokens.specs.Lexing.{shown, askHere, tokenHere, wordKind, askMatchKind, askFailKind, noKind, endKind}
 

@@ -17,7 +17,7 @@ use Rattle.document.specs.Tokens.{word, mark, ask, noToken, askToken, tokenAt, 
 use Rattle.document.specs.Reading.{nextIs, past}
 use Rattle.basics.specs.Tests.{decided, both}
 use Rattle.basics.specs.Lists.{run-part}
-use Rattle.rows.specs.RowsLaws.{drop-here}
+use Rattle.basics.specs.Left.{drop-here}
 use Rattle.tokens.specs.declared.Token.{Token}
 use Rattle.tokens.specs.declared.Step.{Step}
 use Rattle.tokens.specs.Lexing.{beginsKind, kindOf, wordKind, endKind, shown, tokenHere, lexemesAt}

@@ -15,7 +15,7 @@ use Rattle.document.specs.Declarations.{nameRun}
 use Rattle.document.specs.Tokens.{askToken, tokenAt, lexemesFrom}
 use Rattle.basics.specs.Tests.{decided}
 use Rattle.basics.specs.Lists.{run-within}
-use Rattle.rows.specs.RowsLaws.{drop-here, drop-end}
+use Rattle.basics.specs.Left.{drop-here, drop-end}
 use Rattle.tokens.specs.Lexing.{lexemesAt}
 use Rattle.tokens.specs.Steps.{skipTo, Begins}
 

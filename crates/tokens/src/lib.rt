@@ -103,7 +103,7 @@ pub fn token_at(s: &[u8], at: usize) -> Token
     let b = s[at];
     let class = classes::class_of(b);
     if class == classes::LETTER {
-        let end = fields::name_end(s, at);
+        let end = names::name_end(s, at);
         return Token { kind: WORD, end };
     }
     let next = at + 1;

@@ -1,7 +1,7 @@
 -- `declared::pattern_name` meets its contract: past the end and where no letter stands there is no name; else its run.
 -- Assumes nothing.
 use native.Mathlib.Omega.{arith}
-use Rattle.fields.specs.NamesLaws.{name-past, name-none, name-there, name-inside}
+use Rattle.names.specs.NamesLaws.{name-past, name-none, name-there, name-inside}
 use Prim.Native.Nat.{_-_}
 use borrow.Author.Needs.{needs}
 use Rattle.declared.proofs.pattern_name.Statement.{statement}

@@ -1,7 +1,7 @@
 -- `entries::read_row` meets its contract: each test decides its refusal, in the document's order.
 -- Assumes nothing.
 use native.Mathlib.Omega.{arith}
-use Rattle.rows.specs.SplitLaws.{end-within}
+use Rattle.fields.specs.SplitLaws.{end-within}
 use Rattle.entries.specs.EntriesLaws.{count-right}
 use Rattle.entries.specs.RowLaws.{row-long, row-fields, row-unknown, row-bad, row-wrong, row-right}
 use borrow.Author.Needs.{needs}

@@ -46,7 +46,7 @@ use denote.Triple.Spec.{Meets, tripleOf}
 use denote.Triple.Table.{entered, cited}
 use denote.Triple.Walked.{says, Stays, stay-ref, walkOf, goes-ref, Walks, ends-at, walked, walk-meets}
 use Rattle.reader.specs.Handing.{placeAt}
-use Rattle.rows.specs.Places.{PartAt, placeFrom}
+use Rattle.fields.specs.Places.{PartAt, placeFrom}
 use Rattle.reader.specs.HandingLaws.{hands-out, held-lies}
 use Rattle.reader.specs.declared.Reader.{Reader}
 use Rattle.reader.specs.declared.Row.{Row}

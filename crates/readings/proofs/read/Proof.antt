@@ -3,7 +3,7 @@
 use native.Mathlib.Omega.{arith}
 use lib.ListN.{length}
 use Rattle.rows.specs.TextLaws.{row-within}
-use Rattle.rows.specs.FieldsLaws.{split-some}
+use Rattle.fields.specs.FieldsLaws.{split-some}
 use Rattle.readings.specs.TextReadsLaws.{Going, read-long, read-header, read-begins, read-row, read-refused, read-later, read-none, read-all}
 use Prim.Native.Nat.{_-_}
 use borrow.Author.Needs.{needs}
