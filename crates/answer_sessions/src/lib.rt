@@ -4,11 +4,11 @@ ghost use Prim.Native.Nat.{_≤_};
 use batch::read;
 use batch::told::refused;
 use batch::write;
+use finding::Looked;
 use limits::Combination;
 use remembered::Step;
 use remembered::memory::Memory;
 use remembered::tables;
-use session::Looked;
 use steps::Answered;
 
 // A combination that was read, and the place after it.
@@ -89,7 +89,7 @@ fn start_in(m: Memory, seen: &mut [u32], kept: &mut [u32]) -> Answered {
     let of_seen = within(m.seen, seen.len());
     let of_kept = within(m.kept, kept.len());
     let p = m.property;
-    session::start(p, &mut seen[0..of_seen], &mut kept[0..of_kept])
+    starting::start(p, &mut seen[0..of_seen], &mut kept[0..of_kept])
 }
 
 fn event_in(
@@ -120,7 +120,7 @@ fn event_in(
 
 fn lookup_in(m: Memory, seen: &[u32], kept: &[u32], c: Combination) -> Looked {
     let p = m.property;
-    session::lookup(
+    finding::lookup(
         p,
         tables::lent(seen, m.seen),
         m.seen_count,

@@ -85,7 +85,7 @@ fn print_rows(
     let mut seen = [0u32; session::SEEN_NUMBERS];
     let mut kept = [0u32; session::KEPT_NUMBERS];
     let mut reports = [0u32; REPORT_NUMBERS];
-    let started = session::start(p, &mut seen, &mut kept);
+    let started = starting::start(p, &mut seen, &mut kept);
     let d = printing::print(
         declarations,
         p,

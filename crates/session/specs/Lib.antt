@@ -1,3 +1,1 @@
-pub mod Calls
 pub mod FaceLaws
-pub mod LookupLaws

@@ -25,10 +25,10 @@ use Rattle.translate.proofs.translate.Reads as translate
 use Rattle.property.specs.declared.Property.{Property}
 use Rattle.property.proofs.in_range.Reads as in-range
 use Rattle.steps.specs.declared.Answered.{Answered}
-use Rattle.session.specs.declared.Looked.{Looked}
-use Rattle.session.proofs.start.Reads as start
+use Rattle.finding.specs.declared.Looked.{Looked}
+use Rattle.starting.proofs.start.Reads as start
 use Rattle.session.proofs.event.Reads as event
-use Rattle.session.proofs.lookup.Reads as lookup
+use Rattle.finding.proofs.lookup.Reads as lookup
 use Rattle.turns.specs.declared.Ran.{Ran}
 use Rattle.log.proofs.row.Reads as row
 use Rattle.log.proofs.run.Reads as run
@@ -91,7 +91,7 @@ module _ (κs : Lfts 0) (p : Property) where
 
 -- One event ------------------------------------------------------------------------------------------------------------
 
--- session::start(p, &mut seen, &mut kept)
+-- starting::start(p, &mut seen, &mut kept)
 module _ (κs : Lfts 2) (p : Property) (seen kept : Lent) where
   abbrev pub StartPromise : Answered → List ℕ → List ℕ → Type 0
   StartPromise r seen′ kept′ = start.Learnt κs (p, (seen, (kept, tt))) r (p, (last seen seen′, (last kept kept′, tt)))
@@ -120,7 +120,7 @@ module _ (κs : Lfts 3) (p : Property) (seen : Lent) (n : ℕ) (kept : Lent) (m 
       → (r ≡ q) × (seen′ ≡ seen″) × (kept′ ≡ kept″) × (reports′ ≡ reports″)
   event-single r q seen′ seen″ kept′ kept″ reports′ reports″ x y = leaves-single x y
 
--- session::lookup(p, seen, n, kept, m, c)
+-- finding::lookup(p, seen, n, kept, m, c)
 module _ (κs : Lfts 2) (p : Property) (seen : Lent) (n : ℕ) (kept : Lent) (m : ℕ) (c : List ℕ) where
   abbrev pub LookupPromise : Looked → Type 0
   LookupPromise r = lookup.Learnt κs (p, (seen, (n, (kept, (m, (c, tt)))))) r (p, (seen, (n, (kept, (m, (c, tt))))))

@@ -10,7 +10,7 @@ use Rattle.document.specs.Session.{Session, Happened}
 use Rattle.document.specs.Log as document
 use Rattle.fields.specs.Places.{PartAt}
 use Rattle.steps.specs.declared.Answered.{Answered}
-use Rattle.session.specs.Calls.{StartLeaves}
+use Rattle.starting.specs.Starts.{StartLeaves}
 use Rattle.steps.specs.Steps.{Leaves}
 use Rattle.turns.specs.declared.Ran.{Ran}
 use Rattle.turns.specs.Turns.{RunLeaves}

@@ -1,5 +1,6 @@
 // One event in a session that was judged (document 01, "One event"): in one pass where it creates nothing, else worked out and
 // then written down. Interior: for the calls of a session and for a run. Above `foreseen`, `writing` and `advance`.
+ghost use mathlib.Core.Path.{_≡_};
 ghost use Rattle.judge.specs.Sound.{sessionOf};
 ghost use Rattle.moves.specs.Ready.{Steady};
 ghost use Rattle.steps.specs.Steps.{stepBy, Leaves};
@@ -14,6 +15,18 @@ pub struct Answered {
     pub seen: usize,
     pub kept: usize,
     pub reported: usize,
+}
+
+// An answer without reports: of a refusal, with "the session counts as given"; of a start that is taken.
+pub fn counts_alone(refusal: u8, n: usize, m: usize) -> Answered
+    ensures { λ r. ⌜ r ≡ record { refusal = refusal; seen = n; kept = m; reported = 0 } ⌝ }
+{
+    Answered {
+        refusal,
+        seen: n,
+        kept: m,
+        reported: 0,
+    }
 }
 
 // Any event: worked out, then written down if there is room.

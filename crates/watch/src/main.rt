@@ -1,6 +1,6 @@
 // The watch program (document 01, "The program and its example"): reads `events.csv`, `pattern.txt` and `log.csv` in the folder
 // where it runs, and prints the reports of the log's rows. Thin over the library: `translate::translate`, `declared::header`,
-// `session::start` and `printing::print` do the work; here are the files, the log's buffer and standard output.
+// `starting::start` and `printing::print` do the work; here are the files, the log's buffer and standard output.
 ghost use Prim.Native.Nat.{_≤_};
 ghost use mathlib.Core.Path.{_≡_};
 ghost use lib.ListN.{length};
@@ -236,7 +236,7 @@ fn print_all(
 )
     requires { ⌜ (first .at ≤ first .held) × ((first .held ≤ length (now log)) × (mostHeading ≤ length (now text))) ⌝ }
 {
-    let started = session::start(p, seen, kept);
+    let started = starting::start(p, seen, kept);
     let well = output::print_heading(text, declarations);
     let window = window::after_row(log, first);
     let begun = Step {

@@ -1,11 +1,11 @@
--- `session::find_kept` meets its contract: a combination that is kept stands where the search ends.
+-- `finding::find_kept` meets its contract: a combination that is kept stands where the search ends.
 -- Assumes nothing.
-use Rattle.session.specs.LookupLaws.{findable-searchable, find-none, find-differs, find-here, find-state}
+use Rattle.finding.specs.LookupLaws.{findable-searchable, find-none, find-differs, find-here, find-state}
 use mathlib.Core.List.{[]}
 use Prim.Native.Nat.{_-_}
 use borrow.Author.Needs.{needs}
-use Rattle.session.proofs.find_kept.Statement.{statement}
-use Rattle.session.proofs.find_kept.Tie as tie
+use Rattle.finding.proofs.find_kept.Statement.{statement}
+use Rattle.finding.proofs.find_kept.Tie as tie
 
 place-requires : tie.Need-place-requires
 place-requires c κs = search (needs, findable-searchable)

@@ -1,33 +1,17 @@
--- What start and lookup answer and leave, as the code's values: one definition maps document 01's answers to them.
+-- What lookup answers, as the code's values: one definition maps document 01's answers to them.
 -- Assumes nothing.
 use Prim.Native.Nat.{ℕ, _*_, _<_, _≤_}
-use mathlib.Core.Path.{_≡_}
 use mathlib.Core.Bool.{true, false}
 use mathlib.Core.List.{List, [], _∷_}
 use lib.ListN.{length, getD}
 use Rattle.document.specs.Lists.{In, equal}
 use Rattle.document.specs.Limits.{keptStride, mostStates}
-use Rattle.document.specs.Refusals.{number, Answer, taken, refused, refusalOf}
+use Rattle.document.specs.Refusals.{number, Answer, taken, refused}
 use Rattle.document.specs.OneEvent.{Kept}
-use Rattle.document.specs.Session.{Session, startLeaves, Found, held, hopeless}
+use Rattle.document.specs.Session.{Found, held, hopeless}
 use Rattle.slices.specs.OrderLaws.{Ascends, combinations}
 use Rattle.tables.specs.Tables.{keptFrom}
-use Rattle.steps.specs.declared.Answered.{Answered}
-use Rattle.session.specs.declared.Looked.{Looked}
-
--- start: what it says, and every lent number afterwards
-unfoldable pub started : List ℕ → List ℕ → Answer Session → Answered
-started seen kept a = record {
-  refusal = refusalOf a;
-  seen = startLeaves seen kept a .seenCount;
-  kept = startLeaves seen kept a .keptCount;
-  reported = 0;
-}
-
-pub record StartLeaves (a : Answer Session) (seen kept : List ℕ) (r : Answered) (seen′ kept′ : List ℕ) : Type 0 where
-  pub says : r ≡ started seen kept a
-  pub seenLeft : seen′ ≡ startLeaves seen kept a .seen
-  pub keptLeft : kept′ ≡ startLeaves seen kept a .kept
+use Rattle.finding.specs.declared.Looked.{Looked}
 
 -- lookup: the kept state and its verdict; hopeless, and a refusal, have neither
 unfoldable pub lookedUp : Answer Found → Looked

@@ -1,11 +1,11 @@
--- `session::start` meets its contract: both rooms are cleared, and the first kept row is zeros.
+-- `starting::start` meets its contract: both rooms are cleared, and the first kept row is zeros.
 -- Assumes nothing.
 use Rattle.known.specs.KnowingLaws.{taken-property}
-use Rattle.session.specs.LookupLaws.{start-property, start-room, start-taken}
+use Rattle.starting.specs.StartLaws.{start-property, start-room, start-taken}
 use Prim.Native.Nat.{_-_}
 use borrow.Author.Needs.{needs}
-use Rattle.session.proofs.start.Statement.{statement}
-use Rattle.session.proofs.start.Tie as tie
+use Rattle.starting.proofs.start.Statement.{statement}
+use Rattle.starting.proofs.start.Tie as tie
 
 in-range-requires : tie.Need-in-range-requires
 in-range-requires c κs = search needs

@@ -1,11 +1,11 @@
--- `session::lookup` meets its contract: judged in the order of the refusals, then looked up.
+-- `finding::lookup` meets its contract: judged in the order of the refusals, then looked up.
 -- Assumes nothing.
 use Rattle.known.specs.KnowingLaws.{taken-property, known-states}
-use Rattle.session.specs.LookupLaws.{lookup-property, lookup-session, lookup-past, lookup-found, lookup-seen, lookup-kept}
+use Rattle.finding.specs.LookupLaws.{lookup-property, lookup-session, lookup-past, lookup-found, lookup-seen, lookup-kept}
 use Prim.Native.Nat.{_-_}
 use borrow.Author.Needs.{needs}
-use Rattle.session.proofs.lookup.Statement.{statement}
-use Rattle.session.proofs.lookup.Tie as tie
+use Rattle.finding.proofs.lookup.Statement.{statement}
+use Rattle.finding.proofs.lookup.Tie as tie
 
 in-range-requires : tie.Need-in-range-requires
 in-range-requires c κs = search needs
