@@ -1,5 +1,3 @@
-pub mod Growing
-pub mod StepLaws
-pub mod RowLaws
-pub mod GrowLaws
+pub mod Tabling
+pub mod VerdictLaws
 pub mod TableLaws

@@ -20,9 +20,10 @@ use Rattle.document.specs.Positions.{verdictOf}
 use Rattle.document.specs.States.{Found, statesOf}
 use Rattle.sets.specs.declared.Shape.{Shape}
 use Rattle.sets.specs.Shapes.{shapeOf}
-use Rattle.states.specs.declared.Grown.{Grown}
+use Rattle.growing.specs.declared.Grown.{Grown}
 use Rattle.states.specs.declared.Table.{Table}
-use Rattle.states.specs.Growing.{Reads, Grows, verdictFrom, verdictsFrom, tooMany, tableOf, Tabled}
+use Rattle.growing.specs.Growing.{Reads, Grows}
+use Rattle.states.specs.Tabling.{verdictFrom, verdictsFrom, tooMany, tableOf, Tabled}
 use Rattle.document.specs.Declarations.{Declared}
 use Rattle.document.specs.Reading.{Parsed}
 use Rattle.document.specs.Translate.{propertyOf}

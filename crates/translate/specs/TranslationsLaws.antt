@@ -25,7 +25,7 @@ use Rattle.sets.specs.ShapesLaws.{tabulate-is}
 use Rattle.pattern.specs.declared.Parsed.{Parsed}
 use Rattle.pattern.specs.Texts.{refusedText, takenText, parsedOf}
 use Rattle.states.specs.declared.Table.{Table}
-use Rattle.states.specs.Growing.{tableOf, Tabled}
+use Rattle.states.specs.Tabling.{tableOf, Tabled}
 use Rattle.states.specs.TableLaws.{table-over, table-property}
 use Rattle.translate.specs.declared.Translated.{Translated}
 use Rattle.translate.specs.Translations.{refusedTable, translatedOf, Tables}

@@ -1,6 +1,6 @@
 -- `states::verdict_of` meets its contract: each test of the definition in its order.
 -- Assumes nothing.
-use Rattle.states.specs.StepLaws.{verdict-start, verdict-ends, verdict-fail, verdict-open}
+use Rattle.states.specs.VerdictLaws.{verdict-start, verdict-ends, verdict-fail, verdict-open}
 use Prim.Native.Nat.{_-_}
 use borrow.Author.Needs.{needs}
 use Rattle.states.proofs.verdict_of.Statement.{statement}

@@ -1,6 +1,6 @@
 -- `states::verdicts` meets its contract: the states gone through have their verdicts, and the others 0.
 -- Assumes nothing.
-use Rattle.states.specs.StepLaws.{Judged, judged-none, judged-more, judged-all}
+use Rattle.states.specs.VerdictLaws.{Judged, judged-none, judged-more, judged-all}
 use Prim.Native.Nat.{_≤_, _-_}
 use borrow.Author.Needs.{needs}
 use Rattle.states.proofs.verdicts.Statement.{statement}

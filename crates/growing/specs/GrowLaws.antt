@@ -22,8 +22,9 @@ use Rattle.document.specs.States.{Found, stateOf, find, findAll, rowOf, goThrou
 use Rattle.basics.specs.Tests.{decided}
 use Rattle.basics.specs.Lists.{tabulate-at, tabulate-past, tabulate-same, tabulate-next, zero-at}
 use Rattle.sets.specs.ShapesLaws.{tabulate-is}
-use Rattle.states.specs.Growing.{nextsOf, moveOf, movesOf, metAll, Row, Reads, Grows, transitions}
-use Rattle.states.specs.RowLaws.{find-longer}
+use Rattle.nexts.specs.Nexts.{nextsOf, moveOf, movesOf}
+use Rattle.growing.specs.Growing.{metAll, Row, Reads, Grows, transitions}
+use Rattle.growing.specs.RowLaws.{find-longer}
 
 -- The definition's moves ------------------------------------------------------------------------------------------------
 

@@ -1,13 +1,12 @@
--- `states::moves` meets its contract: the events gone through have their sets.
+-- `nexts::moves` meets its contract: the events gone through have their sets.
 -- Assumes nothing.
-use Rattle.states.specs.StepLaws.{}
 use Rattle.sets.specs.ShapesLaws.{Filled, filled-none, filled-more, filled-all}
 use mathlib.Core.Path.{refl, _≡_}
 use Prim.Native.Nat.{_-_}
-use Rattle.states.specs.Growing.{nextsOf, moveOf, movesOf}
+use Rattle.nexts.specs.Nexts.{nextsOf, moveOf, movesOf}
 use borrow.Author.Needs.{needs}
-use Rattle.states.proofs.moves.Statement.{statement}
-use Rattle.states.proofs.moves.Tie as tie
+use Rattle.nexts.proofs.moves.Statement.{statement}
+use Rattle.nexts.proofs.moves.Tie as tie
 
 abbrev Inv-loop : tie.InvT-loop
 Inv-loop after named base set reach to₀ e₀ to e = (reach ≡ nextsOf after set 32) × Filled 16 (moveOf after named base set) to e

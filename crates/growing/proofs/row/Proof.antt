@@ -1,10 +1,10 @@
--- `states::row` meets its contract: the sets that the events left add to those found are those that all add to the first.
+-- `growing::row` meets its contract: the sets that the events left add to those found are those that all add to the first.
 -- Assumes nothing.
-use Rattle.states.specs.RowLaws.{Rowing, rowing-begin, rowing-over, rowing-turn, rowing-end}
+use Rattle.growing.specs.RowLaws.{Rowing, rowing-begin, rowing-over, rowing-turn, rowing-end}
 use Prim.Native.Nat.{_-_}
 use borrow.Author.Needs.{needs}
-use Rattle.states.proofs.row.Statement.{statement}
-use Rattle.states.proofs.row.Tie as tie
+use Rattle.growing.proofs.row.Statement.{statement}
+use Rattle.growing.proofs.row.Tie as tie
 
 abbrev Inv-loop : tie.InvT-loop
 Inv-loop sets₀ next₀ count i to events n₀ e₀ sets next n e = Rowing to events i count sets₀ next₀ sets next n e

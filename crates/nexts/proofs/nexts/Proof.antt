@@ -1,12 +1,12 @@
--- `states::nexts` meets its contract: what was found so far is what can come next after the numbers looked at.
+-- `nexts::nexts` meets its contract: what was found so far is what can come next after the numbers looked at.
 -- Assumes nothing.
-use Rattle.states.specs.StepLaws.{nexts-none, nexts-more, nexts-all}
-use Rattle.states.specs.Growing.{nextsOf}
+use Rattle.nexts.specs.NextsLaws.{nexts-none, nexts-more, nexts-all}
+use Rattle.nexts.specs.Nexts.{nextsOf}
 use Prim.Native.Nat.{_≤_, _-_}
 use mathlib.Core.Path.{_≡_}
 use borrow.Author.Needs.{needs}
-use Rattle.states.proofs.nexts.Statement.{statement}
-use Rattle.states.proofs.nexts.Tie as tie
+use Rattle.nexts.proofs.nexts.Statement.{statement}
+use Rattle.nexts.proofs.nexts.Tie as tie
 
 abbrev Inv-loop : tie.InvT-loop
 Inv-loop after set found₀ k₀ found k = (k ≤ 32) × (found ≡ nextsOf after set k)

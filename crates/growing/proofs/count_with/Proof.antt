@@ -1,10 +1,10 @@
--- `states::count_with` meets its contract: a place among those counted adds none.
+-- `growing::count_with` meets its contract: a place among those counted adds none.
 -- Assumes nothing.
 use borrow.Author.Tests.{lt-ltb, le-ltb}
 use Prim.Native.Nat.{_-_}
 use borrow.Author.Needs.{needs}
-use Rattle.states.proofs.count_with.Statement.{statement}
-use Rattle.states.proofs.count_with.Tie as tie
+use Rattle.growing.proofs.count_with.Statement.{statement}
+use Rattle.growing.proofs.count_with.Tie as tie
 
 returns : tie.Need-returns
 returns c = rw (lt-ltb _ _ (c .if1 .taken))

@@ -1,10 +1,10 @@
--- `states::grow` meets its contract: the states left to go through add what the definition's turns add.
+-- `growing::grow` meets its contract: the states left to go through add what the definition's turns add.
 -- Assumes nothing.
-use Rattle.states.specs.GrowLaws.{Growing, growing-begin, growing-over, growing-turn, growing-end}
+use Rattle.growing.specs.GrowLaws.{Growing, growing-begin, growing-over, growing-turn, growing-end}
 use Prim.Native.Nat.{_-_}
 use borrow.Author.Needs.{needs}
-use Rattle.states.proofs.grow.Statement.{statement}
-use Rattle.states.proofs.grow.Tie as tie
+use Rattle.growing.proofs.grow.Statement.{statement}
+use Rattle.growing.proofs.grow.Tie as tie
 
 abbrev Inv-loop : tie.InvT-loop
 Inv-loop after named base events sets₀ next₀ count₀ i₀ sets next count i = Growing after named base events sets next count i

@@ -1,10 +1,10 @@
--- `states::place` meets its contract: the number of the set among those left is its number among all.
+-- `growing::place` meets its contract: the number of the set among those left is its number among all.
 -- Assumes nothing.
-use Rattle.states.specs.StepLaws.{Place, place-begin, place-found, place-turn, place-over}
+use Rattle.growing.specs.PlaceLaws.{Place, place-begin, place-found, place-turn, place-over}
 use Prim.Native.Nat.{_-_}
 use borrow.Author.Needs.{needs}
-use Rattle.states.proofs.place.Statement.{statement}
-use Rattle.states.proofs.place.Tie as tie
+use Rattle.growing.proofs.place.Statement.{statement}
+use Rattle.growing.proofs.place.Tie as tie
 
 abbrev Inv-loop : tie.InvT-loop
 Inv-loop sets n set i₀ i = Place sets n set i

@@ -15,7 +15,7 @@ use Rattle.document.specs.Limits.{mostEvents, mostStates}
 use Rattle.document.specs.States.{stateOf, find}
 use Rattle.basics.specs.Tests.{decided}
 use Rattle.words.specs.Places.{state-le, state-at}
-use Rattle.states.specs.Growing.{metAll, Row}
+use Rattle.growing.specs.Growing.{metAll, Row}
 
 -- The number of a set ---------------------------------------------------------------------------------------------------
 

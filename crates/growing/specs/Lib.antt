@@ -1,0 +1,4 @@
+pub mod Growing
+pub mod PlaceLaws
+pub mod RowLaws
+pub mod GrowLaws
