@@ -106,13 +106,13 @@ fn name_by_offset(s: &[u8], at: usize, out: &mut [u8], filled: usize) -> Told {
 
 // `event` and the number of a name, or `none`.
 fn number_of(text: &[u8], name: &[u8], out: &mut [u8], filled: usize) -> usize {
-    let t = readings::read(text);
+    let t = declaring::read(text);
     if t.refusal != refusals::TAKEN {
         return write::word(out, filled, b"none");
     }
     let starts = t.starts;
     let sizes = t.sizes;
-    let event = readings::find(text, &starts, &sizes, t.events, name);
+    let event = places::find(text, &starts, &sizes, t.events, name);
     if t.events <= event {
         return write::word(out, filled, b"none");
     }

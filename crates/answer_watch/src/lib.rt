@@ -63,7 +63,7 @@ fn print_heading(text: &mut [u8], declarations: &[u8]) -> usize {
     if text.len() < lines::MOST_HEADING {
         return read::STUCK;
     }
-    let reading = readings::read(declarations);
+    let reading = declaring::read(declarations);
     if reading.refusal != refusals::TAKEN {
         return read::STUCK;
     }

@@ -20,7 +20,7 @@ use Rattle.declared.specs.declared.Declared.{Declared as Judged}
 use Rattle.readings.specs.Readings.{padded, Reads}
 use Rattle.readings.specs.ReadingsLaws.{reads-taken, reads-refused}
 use Rattle.declared.specs.Answers.{declaredOf, nameStart, eventStart}
-use Rattle.readings.specs.PlacesLaws.{names-at}
+use Rattle.places.specs.PlacesLaws.{names-at}
 
 -- What `declarations` answers.
 pub declared-refused : (text : List ℕ) (t : Reading) → Reads text t → (t .refusal ≡ 0 → ⊥)

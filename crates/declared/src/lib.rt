@@ -23,7 +23,7 @@ pub struct Declared {
 pub fn declarations(text: &[u8]) -> Declared
     ensures { λ r. ⌜ r ≡ declaredOf (declarations (now (text .entry))) ⌝ }
 {
-    let t = readings::read(text);
+    let t = declaring::read(text);
     if t.refusal != refusals::TAKEN {
         return Declared {
             refusal: t.refusal,
@@ -45,7 +45,7 @@ pub fn declarations(text: &[u8]) -> Declared
 pub fn header(declarations: &[u8], row: &[u8]) -> u8
     ensures { λ r. ⌜ r ≡ refusalOf (header (now (declarations .entry)) (now (row .entry))) ⌝ }
 {
-    let t = readings::read(declarations);
+    let t = declaring::read(declarations);
     if t.refusal != refusals::TAKEN {
         return t.refusal;
     }
@@ -60,7 +60,7 @@ pub fn header(declarations: &[u8], row: &[u8]) -> u8
 pub fn event_name<'a, 'b>(declarations: &'a [u8], pattern: &'b [u8], event: usize) -> &'a [u8]
     ensures { λ r. ⌜ PartAt (declarations .entry) (eventStart (now (declarations .entry)) event) (eventName (now (declarations .entry)) event) r ⌝ }
 {
-    let t = readings::read(declarations);
+    let t = declaring::read(declarations);
     if t.refusal != refusals::TAKEN {
         return &declarations[0..0];
     }

@@ -11,7 +11,7 @@ use Rattle.document.specs.Refusals.{number, Answer, taken, refused}
 use Rattle.document.specs.Classes.{cr, lf, quote}
 use Rattle.document.specs.Declarations.{Declared}
 use Rattle.document.specs.Log.{RowEvent, isBadValue, valuesOf}
-use Rattle.readings.specs.Readings.{namesAt}
+use Rattle.places.specs.NamesAt.{namesAt}
 use Rattle.entries.specs.declared.Entry.{Entry}
 use Rattle.entries.specs.declared.Values.{Values}
 

@@ -14,8 +14,8 @@ use Rattle.document.specs.Combinations.{bindsExactly}
 use Rattle.document.specs.Log.{rowEvent}
 use Rattle.fields.specs.Split.{upToComma}
 use Rattle.fields.specs.SplitLaws.{walk-begins, walk-field}
-use Rattle.readings.specs.Readings.{namesAt}
-use Rattle.readings.specs.PlacesLaws.{names-length}
+use Rattle.places.specs.NamesAt.{namesAt}
+use Rattle.places.specs.PlacesLaws.{names-length}
 use Rattle.entries.specs.declared.Entry.{Entry}
 use Rattle.entries.specs.declared.Values.{Values}
 use Rattle.entries.specs.Entries.{isBarred, valuesSaid, declaredAt, entryOf}

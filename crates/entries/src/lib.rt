@@ -9,7 +9,7 @@ ghost use Rattle.document.specs.Limits.{width, mostEvents};
 ghost use Rattle.document.specs.Rows.{fields, valueOf};
 ghost use Rattle.document.specs.Log.{isBadValue, rowEvent};
 ghost use Rattle.fields.specs.Split.{upToComma};
-ghost use Rattle.readings.specs.Readings.{Inside};
+ghost use Rattle.places.specs.NamesAt.{Inside};
 ghost use Rattle.entries.specs.Entries.{isBarred, valuesSaid, declaredAt, entryOf};
 use limits::Combination;
 use limits::EventSets;
@@ -170,7 +170,7 @@ pub fn read_row<'a, 'b, 'c>(
     }
     let end = fields::field_end(row, 0);
     let name = &row[0..end];
-    let event = readings::find(text, starts, sizes, events, name);
+    let event = places::find(text, starts, sizes, events, name);
     if events <= event {
         return refused(refusals::UNKNOWN_EVENT);
     }

@@ -78,7 +78,7 @@ pub fn judge_call<'a, 'b>(
 ) -> Judged
     ensures { λ r. ⌜ Judges (now (declarations .entry)) (meaning p) (sessionOf n m (now (seen .entry)) (now (kept .entry))) r ⌝ }
 {
-    let reading = readings::read(declarations);
+    let reading = declaring::read(declarations);
     if reading.refusal != refusals::TAKEN {
         return refused_call(reading.refusal, reading);
     }

@@ -17,7 +17,7 @@ use Rattle.document.specs.Patterns.{Pattern, epsilon, name}
 use Rattle.document.specs.Tokens.{Token, word, mark, ask, noToken, Lexeme, beginsAtom}
 use Rattle.document.specs.Reading.{Reading, read, stopped, nextIs, closed, readName, atomOf, readAtomIn, readAlternative, readAtom}
 use Rattle.basics.specs.Lists.{length-tabulate}
-use Rattle.readings.specs.Readings.{namesAt}
+use Rattle.places.specs.NamesAt.{namesAt}
 use Rattle.sets.specs.declared.Shape.{Shape}
 use Rattle.sets.specs.Shapes.{shapeOf}
 use Rattle.tokens.specs.declared.Step.{Step}

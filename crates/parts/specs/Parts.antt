@@ -10,7 +10,7 @@ use Rattle.document.specs.Refusals.{number, taken}
 use Rattle.document.specs.Patterns.{Pattern, epsilon}
 use Rattle.document.specs.Tokens.{Lexeme, offsetOf}
 use Rattle.document.specs.Reading.{Reading, read, stopped, marked}
-use Rattle.readings.specs.Readings.{Inside}
+use Rattle.places.specs.NamesAt.{Inside}
 use Rattle.sets.specs.declared.Shape.{Shape}
 use Rattle.sets.specs.Shapes.{shapeOf}
 use Rattle.tokens.specs.Lexing.{lexemesAt}

@@ -4,7 +4,7 @@
 // of a token, or the text's end: `tokens::look` passes the blanks.
 ghost use mathlib.Core.Path.{_≡_};
 ghost use Rattle.document.specs.Reading.{readAtom};
-ghost use Rattle.readings.specs.Readings.{namesAt};
+ghost use Rattle.places.specs.NamesAt.{namesAt};
 ghost use Rattle.sets.specs.Shapes.{eitherShape, thenShape};
 ghost use Rattle.tokens.specs.Lexing.{wordKind};
 ghost use Rattle.tokens.specs.Steps.{Begins, Looks};
@@ -68,7 +68,7 @@ pub fn word<'a, 'b, 'c>(
         let shape = sets::empty();
         return taken_at(t.next, names, shape);
     }
-    let event = readings::find(events, starts, sizes, count, name);
+    let event = places::find(events, starts, sizes, count, name);
     if count <= event {
         return refused_at(refusals::UNDECLARED_EVENT, at);
     }

@@ -17,7 +17,7 @@ use Rattle.document.specs.Patterns.{Pattern}
 use Rattle.document.specs.Tokens.{Token, word, mark, ask, noToken, Lexeme, lexemes, offsetOf, isMarkOf, isWordOf}
 use Rattle.document.specs.Reading.{Reading, read, stopped, nextIs, past, askOf, secondAsk, readAsks, readAlternative, readWhole, parse}
 use Rattle.basics.specs.Tests.{decided}
-use Rattle.readings.specs.Readings.{Inside}
+use Rattle.places.specs.NamesAt.{Inside}
 use Rattle.tokens.specs.declared.Step.{Step}
 use Rattle.tokens.specs.Lexing.{wordKind, endKind, askMatchKind, askFailKind, kindOf, lexemesAt}
 use Rattle.tokens.specs.Steps.{skipTo, Begins, Sort, Looks}

@@ -8,7 +8,7 @@ ghost use Rattle.document.specs.Limits.{mostEvents};
 ghost use Rattle.document.specs.Classes.{ereWord};
 ghost use Rattle.document.specs.Tokens.{isWordOf};
 ghost use Rattle.document.specs.Reading.{parse, nextIs, readAlternative, readSequence, readRepetition, readAtom};
-ghost use Rattle.readings.specs.Readings.{namesAt, Inside};
+ghost use Rattle.places.specs.NamesAt.{namesAt, Inside};
 ghost use Rattle.tokens.specs.Lexing.{lexemesAt};
 ghost use Rattle.tokens.specs.Steps.{Begins, Looks};
 ghost use Rattle.parts.specs.Parts.{Ready, Answers};

@@ -3,27 +3,19 @@
 -- Assumes nothing.
 use Prim.Native.Nat.{ℕ, zero, suc, _+_, _-_, _<_, _≤_}
 use mathlib.Core.Path.{_≡_}
-use mathlib.Core.List.{List, [], _++_}
+use mathlib.Core.List.{List, _++_}
 use lib.ListN.{length, getD, take, drop, set, replicate}
-use Rattle.document.specs.Lists.{tabulate}
 use Rattle.document.specs.Limits.{width, mostEvents}
 use Rattle.document.specs.Refusals.{Answer, taken, refused, number}
 use Rattle.document.specs.Rows.{firstRow, fields}
 use Rattle.document.specs.Declarations.{Declared, declarations, eventRow}
 use Rattle.document.specs.Log.{nextAt}
 use Rattle.readings.specs.declared.Reading.{Reading}
+use Rattle.places.specs.NamesAt.{namesAt, Inside}
 
 -- numbers, padded with 0 to one for each event that there can be
 unfoldable pub padded : List ℕ → List ℕ
 padded l = l ++ replicate (mostEvents - length l) 0
-
--- the names at the first n places, each a part of the text
-unfoldable pub namesAt : List ℕ → ℕ → List ℕ → List ℕ → List (List ℕ)
-namesAt text n starts sizes = tabulate n (λ k. take (getD sizes k 0) (drop (getD starts k 0) text))
-
--- every place lies inside the text
-pub record Inside (text starts sizes : List ℕ) : Type 0 where
-  pub within : (k : ℕ) → getD starts k 0 + getD sizes k 0 ≤ length text
 
 -- a reading stands for accepted declarations of the text
 pub record Stands (text : List ℕ) (d : Declared) (r : Reading) : Type 0 where

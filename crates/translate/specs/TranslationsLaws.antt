@@ -18,7 +18,8 @@ use Rattle.document.specs.States.{statesOf}
 use Rattle.document.specs.Translate.{anew, translate}
 use Rattle.words.specs.Taken.{declarations-fit}
 use Rattle.readings.specs.declared.Reading.{Reading}
-use Rattle.readings.specs.Readings.{padded, namesAt, Stands, Reads, Inside}
+use Rattle.readings.specs.Readings.{padded, Stands, Reads}
+use Rattle.places.specs.NamesAt.{namesAt, Inside}
 use Rattle.readings.specs.ReadingsLaws.{reads-taken, reads-refused, padded-at}
 use Rattle.sets.specs.Shapes.{shapeOf}
 use Rattle.sets.specs.ShapesLaws.{tabulate-is}

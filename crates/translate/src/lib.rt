@@ -72,11 +72,11 @@ fn table_of(d: readings::Reading, t: pattern::Parsed) -> Translated
 pub fn translate(declarations: &[u8], pattern: &[u8]) -> Translated
     ensures { λ r. ⌜ r ≡ translatedOf (translate (now (declarations .entry)) (now (pattern .entry))) ⌝ }
 {
-    let d = readings::read(declarations);
+    let d = declaring::read(declarations);
     if d.refusal != refusals::TAKEN {
         return refused_table(d.refusal, 0);
     }
-    if readings::TEXT_BYTES < pattern.len() {
+    if declaring::TEXT_BYTES < pattern.len() {
         return refused_table(refusals::TEXT_TOO_LONG, 0);
     }
     let starts = d.starts;

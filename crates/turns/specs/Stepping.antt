@@ -11,7 +11,7 @@ use Rattle.document.specs.Declarations.{Declared}
 use Rattle.document.specs.Session.{Session, Happened}
 use Rattle.document.specs.Log.{rowEvent, agrees}
 use Rattle.document.specs.Property.{Property, inRange}
-use Rattle.readings.specs.Readings.{Inside}
+use Rattle.places.specs.NamesAt.{Inside}
 use Rattle.entries.specs.Entries.{declaredAt}
 use Rattle.moves.specs.Ready.{Steady}
 use Rattle.moves.specs.declared.Known.{Known}

@@ -20,7 +20,8 @@ use Rattle.document.specs.Log.{RowEvent, rowEvent}
 use Rattle.basics.specs.Tests.{decided}
 use Rattle.basics.specs.Lists.{length-tabulate}
 use Rattle.readings.specs.declared.Reading.{Reading}
-use Rattle.readings.specs.Readings.{padded, namesAt, Stands}
+use Rattle.readings.specs.Readings.{padded, Stands}
+use Rattle.places.specs.NamesAt.{namesAt}
 use Rattle.readings.specs.ReadingsLaws.{padded-at}
 use Rattle.entries.specs.declared.Entry.{Entry}
 use Rattle.entries.specs.Entries.{declaredAt, entryOf}

@@ -17,7 +17,7 @@ use Rattle.document.specs.Log.{RowEvent, rowEvent, stepRow, agrees}
 use Rattle.basics.specs.Lists.{length-tabulate}
 use Rattle.words.specs.Range.{in-range-range}
 use Rattle.slices.specs.TestsLaws.{so, true-of, of-everyBelow}
-use Rattle.readings.specs.Readings.{namesAt}
+use Rattle.places.specs.NamesAt.{namesAt}
 use Rattle.readings.specs.ReadingsLaws.{padded-at}
 use Rattle.entries.specs.Entries.{declaredAt}
 use Rattle.judge.specs.Sound.{sessionOf}

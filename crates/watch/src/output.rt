@@ -28,7 +28,7 @@ pub fn print_refusal(text: &mut [u8], refusal: u8)
 pub fn print_heading(text: &mut [u8], declarations: &[u8]) -> bool
     requires { ⌜ mostHeading ≤ length (now text) ⌝ }
 {
-    let reading = readings::read(declarations);
+    let reading = declaring::read(declarations);
     if reading.refusal != refusals::TAKEN {
         return false;
     }

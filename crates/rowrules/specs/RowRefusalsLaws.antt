@@ -20,9 +20,10 @@ use Rattle.basics.specs.Tests.{decided}
 use Rattle.fields.specs.declared.Fields.{Fields}
 use Rattle.fields.specs.Split.{mostFields, Split}
 use Rattle.fields.specs.FieldsLaws.{split-counts, fields-some}
 use Rattle.readings.specs.declared.Reading.{Reading}
-use Rattle.readings.specs.Readings.{namesAt, Placed, said}
-use Rattle.readings.specs.PlacesLaws.{names-length, among-place}
+use Rattle.places.specs.NamesAt.{namesAt}
+use Rattle.readings.specs.Readings.{Placed, said}
+use Rattle.places.specs.PlacesLaws.{names-length, among-place}
 
 -- The header: its refusal with the tests that the code makes.
 header-is : (row : List ℕ) → headerRow row ≡ refuseIf (ltb width (length (drop 1 (fields row)))) overLimits

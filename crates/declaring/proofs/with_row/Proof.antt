@@ -1,13 +1,13 @@
--- `readings::with_row` meets its contract: the row's refusal, or the reading with the row's event.
+-- `declaring::with_row` meets its contract: the row's refusal, or the reading with the row's event.
 -- Assumes nothing.
 use native.Mathlib.Omega.{arith}
 use Rattle.rows.specs.TextLaws.{row-within}
-use Rattle.readings.specs.RowRefusalsLaws.{event-fits, event-fields}
-use Rattle.readings.specs.RowReadsLaws.{field-inside, row-refused, row-taken}
+use Rattle.rowrules.specs.RowRefusalsLaws.{event-fits, event-fields}
+use Rattle.declaring.specs.RowReadsLaws.{field-inside, row-refused, row-taken}
 use Prim.Native.Nat.{_-_}
 use borrow.Author.Needs.{needs}
-use Rattle.readings.proofs.with_row.Statement.{statement}
-use Rattle.readings.proofs.with_row.Tie as tie
+use Rattle.declaring.proofs.with_row.Statement.{statement}
+use Rattle.declaring.proofs.with_row.Tie as tie
 
 row-end-requires : tie.Need-row-end-requires
 row-end-requires c κs = search needs

@@ -23,10 +23,10 @@ use Rattle.fields.specs.declared.Fields.{Fields}
 use Rattle.rows.specs.TextLaws.{row-part, rows-over, rows-next, drop-next, next-later}
 use Rattle.fields.specs.Split.{Split}
 use Rattle.fields.specs.FieldsLaws.{split-counts}
 use Rattle.readings.specs.declared.Reading.{Reading}
 use Rattle.readings.specs.Readings.{padded, Stands, ReadAs, rowStart, AtRows, Reads, Placed, said, noneRead, RowAs, Follows, RowReads}
-use Rattle.readings.specs.PlacesLaws.{names-length, names-none}
-use Rattle.readings.specs.RowRefusalsLaws.{header-takes, header-fields}
+use Rattle.places.specs.PlacesLaws.{names-length, names-none}
+use Rattle.rowrules.specs.RowRefusalsLaws.{header-takes, header-fields}
 
 -- the declarations, once all their rows are read: "no event" last
 unfoldable pub finish : Answer Declared → Answer Declared

@@ -20,10 +20,11 @@ use Rattle.fields.specs.declared.Fields.{Fields}
 use Rattle.rows.specs.TextLaws.{row-part, row-within}
 use Rattle.fields.specs.Split.{Split}
 use Rattle.fields.specs.FieldsLaws.{split-at, split-some, split-first}
 use Rattle.readings.specs.declared.Reading.{Reading}
-use Rattle.readings.specs.Readings.{Inside, Placed, said, noneRead, oneMore, RowAs, Follows, RowReads}
-use Rattle.readings.specs.PlacesLaws.{names-more}
-use Rattle.readings.specs.RowRefusalsLaws.{rowAdds, event-takes, event-fits, event-fields}
+use Rattle.places.specs.NamesAt.{Inside}
+use Rattle.readings.specs.Readings.{Placed, said, noneRead, oneMore, RowAs, Follows, RowReads}
+use Rattle.places.specs.PlacesLaws.{names-more}
+use Rattle.rowrules.specs.RowRefusalsLaws.{rowAdds, event-takes, event-fits, event-fields}
 
 -- a part of the first n bytes is that part of the whole
 part-of-part : (m k n : ℕ) (l : List ℕ) → k + m ≤ n → take m (drop k (take n l)) ≡ take m (drop k l)

@@ -1,10 +1,10 @@
--- `readings::event_refusal` meets its contract: each test that led to a return decides the refusal.
+-- `rowrules::event_refusal` meets its contract: each test that led to a return decides the refusal.
 -- Assumes nothing.
-use Rattle.readings.specs.RowRefusalsLaws.{event-many, event-stray, event-count, event-marks, event-name, event-epsilon, event-twice, event-taken}
+use Rattle.rowrules.specs.RowRefusalsLaws.{event-many, event-stray, event-count, event-marks, event-name, event-epsilon, event-twice, event-taken}
 use Prim.Native.Nat.{_-_}
 use borrow.Author.Needs.{needs}
-use Rattle.readings.proofs.event_refusal.Statement.{statement}
-use Rattle.readings.proofs.event_refusal.Tie as tie
+use Rattle.rowrules.proofs.event_refusal.Statement.{statement}
+use Rattle.rowrules.proofs.event_refusal.Tie as tie
 
 returns : tie.Need-returns
 returns c = event-many _ _ _ (c .before .before .before .before .pre .0) (search needs)

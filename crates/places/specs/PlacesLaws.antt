@@ -14,7 +14,7 @@ use borrow.Author.Tests.{lt-ltb, le-ltb, ltb-true, ltb-false}
 use Rattle.document.specs.Lists.{tabulate, some, among, placeOf, equal}
 use Rattle.basics.specs.Tests.{decided}
 use Rattle.basics.specs.Lists.{tabulate-at, length-tabulate, tabulate-same, tabulate-next}
-use Rattle.readings.specs.Readings.{namesAt}
+use Rattle.places.specs.NamesAt.{namesAt}
 
 pub names-length : (text : List ℕ) (n : ℕ) (starts sizes : List ℕ) → length (namesAt text n starts sizes) ≡ n
 unfolding namesAt

@@ -1,11 +1,11 @@
--- `readings::find` meets its contract: the name's place among those from each place on gives its place among all.
+-- `places::find` meets its contract: the name's place among those from each place on gives its place among all.
 -- Assumes nothing.
 use native.Mathlib.Omega.{arith}
-use Rattle.readings.specs.PlacesLaws.{Looks, looks-first, looks-found, looks-turn, looks-over}
+use Rattle.places.specs.PlacesLaws.{Looks, looks-first, looks-found, looks-turn, looks-over}
 use Prim.Native.Nat.{_-_}
 use borrow.Author.Needs.{needs}
-use Rattle.readings.proofs.find.Statement.{statement}
-use Rattle.readings.proofs.find.Tie as tie
+use Rattle.places.proofs.find.Statement.{statement}
+use Rattle.places.proofs.find.Tie as tie
 
 abbrev Inv-loop : tie.InvT-loop
 Inv-loop text starts sizes count name k₀ k = Looks text count starts sizes name k

@@ -1,14 +1,14 @@
--- `readings::read` meets its contract: what is left of the rows from each place on makes the text's declarations.
+-- `declaring::read` meets its contract: what is left of the rows from each place on makes the text's declarations.
 -- Assumes nothing.
 use native.Mathlib.Omega.{arith}
 use lib.ListN.{length}
 use Rattle.rows.specs.TextLaws.{row-within}
 use Rattle.fields.specs.FieldsLaws.{split-some}
-use Rattle.readings.specs.TextReadsLaws.{Going, read-long, read-header, read-begins, read-row, read-refused, read-later, read-none, read-all}
+use Rattle.declaring.specs.TextReadsLaws.{Going, read-long, read-header, read-begins, read-row, read-refused, read-later, read-none, read-all}
 use Prim.Native.Nat.{_-_}
 use borrow.Author.Needs.{needs}
-use Rattle.readings.proofs.read.Statement.{statement}
-use Rattle.readings.proofs.read.Tie as tie
+use Rattle.declaring.proofs.read.Statement.{statement}
+use Rattle.declaring.proofs.read.Tie as tie
 
 abbrev Inv-loop : tie.InvT-loop
 Inv-loop text end refusal t₀ at₀ t at = Going text at t

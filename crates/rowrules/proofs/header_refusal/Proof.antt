@@ -1,10 +1,10 @@
--- `readings::header_refusal` meets its contract: each test that led to a return decides the refusal.
+-- `rowrules::header_refusal` meets its contract: each test that led to a return decides the refusal.
 -- Assumes nothing.
-use Rattle.readings.specs.RowRefusalsLaws.{header-many, header-stray, header-word, header-names, header-twice, header-taken}
+use Rattle.rowrules.specs.RowRefusalsLaws.{header-many, header-stray, header-word, header-names, header-twice, header-taken}
 use Prim.Native.Nat.{_-_}
 use borrow.Author.Needs.{needs}
-use Rattle.readings.proofs.header_refusal.Statement.{statement}
-use Rattle.readings.proofs.header_refusal.Tie as tie
+use Rattle.rowrules.proofs.header_refusal.Statement.{statement}
+use Rattle.rowrules.proofs.header_refusal.Tie as tie
 
 returns : tie.Need-returns
 returns c = search (needs, header-many)

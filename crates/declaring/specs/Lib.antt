@@ -1,0 +1,2 @@
+pub mod RowReadsLaws
+pub mod TextReadsLaws

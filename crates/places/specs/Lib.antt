@@ -1,0 +1,2 @@
+pub mod NamesAt
+pub mod PlacesLaws
