@@ -60,7 +60,7 @@ fn then_states(out: &mut [u8], filled: usize, set: u64) -> usize {
 // The hopeful states of a table in range, as a list; of another, which has none, the empty one.
 pub fn then_hopeful(out: &mut [u8], filled: usize, p: Property) -> usize {
     if property::in_range(p) {
-        let states = property::hopeful(p);
+        let states = hopes::hopeful(p);
         return then_states(out, filled, states);
     }
     then_states(out, filled, 0)

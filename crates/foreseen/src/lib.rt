@@ -161,8 +161,8 @@ pub fn foresee(
     let w = tally(next, known, seen, n, kept, m, e, b, fresh);
     let after = n + moves::one(fresh);
     let rooms = Rooms {
-        seen: judge::seen_room(seen),
-        kept: judge::kept_room(kept),
+        seen: rooms::seen_room(seen),
+        kept: rooms::kept_room(kept),
         reports: report_room(reports, from),
     };
     let refusal = room_refusal(rooms, after, w.kept, w.reported);

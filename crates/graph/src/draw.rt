@@ -162,7 +162,7 @@ fn print_arrows(
 // The hopeful states of a table. One that `translate` made is always in range.
 fn hopeful_states(p: Property) -> u64 {
     if property::in_range(p) {
-        return property::hopeful(p);
+        return hopes::hopeful(p);
     }
     0
 }

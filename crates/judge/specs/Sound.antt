@@ -1,18 +1,17 @@
 -- Document 01, "Numbers of refusal", 12, over what a run works out once: the counts of parameters and states, and the test of
 -- the hopeful states. With those of a property it is the document's `sound`.
 -- Assumes nothing.
-use Prim.Native.Nat.{ℕ, _*_, _≤_}
+use Prim.Native.Nat.{ℕ, _*_}
 use mathlib.Core.Path.{_≡_, refl}
 use mathlib.Core.Bool.{Bool, not, _&&_}
 use mathlib.Core.List.{List}
-use lib.ListN.{length}
 use lib.Dec.{leb, ltb}
-use Rattle.document.specs.Lists.{every, equal, tabulate}
+use Rattle.document.specs.Lists.{every, equal}
 use Rattle.document.specs.Limits.{width, seenStride, keptStride}
 use Rattle.document.specs.Combinations.{emptyOf, zeroPast}
 use Rattle.document.specs.OneEvent.{Kept, joinSeen}
 use Rattle.document.specs.Property.{Property, hopeful}
-use Rattle.document.specs.Tables.{numbersAt, seenRoom, keptRoom}
+use Rattle.document.specs.Tables.{seenRoom, keptRoom}
 use Rattle.document.specs.Session.{Session, seenOf, keptOf, ascending, zeroBetween, keptCombinations, rightlyKept, sound}
 
 unfoldable pub rightlyKeptBy : ℕ → (ℕ → Bool) → List (List ℕ) → Kept → Bool
@@ -36,12 +35,3 @@ soundBy-sound p s = refl
 -- the lent numbers and counts as a session
 abbrev pub sessionOf : ℕ → ℕ → List ℕ → List ℕ → Session
 sessionOf n m seen kept = record { seenCount = n; keptCount = m; seen = seen; kept = kept }
-
--- the combinations of the first n rows of some numbers each
-unfoldable pub rowsOf : ℕ → ℕ → List ℕ → List (List ℕ)
-rowsOf stride n t = tabulate n (λ i. numbersAt width t (i * stride))
-
--- the first n rows of some numbers each lie in the table
-pub record Rows (stride n : ℕ) (t : List ℕ) : Type 0 where
-  pub inside : n * stride ≤ length t
-  pub wide : width ≤ stride

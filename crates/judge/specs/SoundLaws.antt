@@ -1,16 +1,15 @@
 -- The clauses of the session check: each alone, the check in the parts in which the code judges it, and the returns of those.
 -- Assumes nothing.
-use Prim.Native.Nat.{ℕ, _+_, _*_, _/_, _<_, _≤_}
+use Prim.Native.Nat.{ℕ, _+_, _*_, _<_, _≤_}
 use mathlib.Core.Path.{_≡_, sym, _∙_}
 use mathlib.Core.Bool.{Bool, true, false, not, _&&_}
 use mathlib.Core.List.{List}
 use native.Mathlib.Omega.{arith}
-use native.Mathlib.Nat.{min-eq-left, min-eq-right}
 use lib.Dec.{leb}
 use lib.ListN.{length, getD}
 use borrow.Author.Tests.{le-leb, lt-leb, leb-true, lt-ltb, le-ltb, not-true, not-false}
 use Rattle.document.specs.Lists.{every, equal}
-use Rattle.document.specs.Limits.{width, mostSeen, mostKept, seenStride, keptStride}
+use Rattle.document.specs.Limits.{width, seenStride, keptStride}
 use Rattle.document.specs.Combinations.{zeroPast}
 use Rattle.document.specs.OneEvent.{Kept, joinSeen}
 use Rattle.document.specs.Tables.{numbersAt, seenRoom, keptRoom, seenRows, keptRows}
@@ -21,26 +20,9 @@ use Rattle.slices.specs.SessionLaws.{seenRoom-holds, keptRoom-holds}
 use Rattle.slices.specs.ListsLaws.{map-tabulate}
 use Rattle.slices.specs.TablesLaws.{keptAt}
 use Rattle.ordered.specs.Rows.{SeenInOrder}
-use Rattle.judge.specs.Sound.{rightlyKeptBy, soundBy, sessionOf, rowsOf, Rows}
-use Rattle.judge.specs.RowsLaws.{notEmpty, Passed, passed-stops, passed-turn, passed-ends}
-
--- Rooms ----------------------------------------------------------------------------------------------------------------
-
-pub seen-room-limit : (t : List ℕ) → mostSeen ≤ length t / seenStride → mostSeen ≡ seenRoom t
-unfolding seenRoom
-seen-room-limit t h = sym (min-eq-left h)
-
-pub seen-room-lent : (t : List ℕ) → length t / seenStride < mostSeen → length t / seenStride ≡ seenRoom t
-unfolding seenRoom
-seen-room-lent t h = sym (min-eq-right (omega arith))
-
-pub kept-room-limit : (t : List ℕ) → mostKept ≤ length t / keptStride → mostKept ≡ keptRoom t
-unfolding keptRoom
-kept-room-limit t h = sym (min-eq-left h)
-
-pub kept-room-lent : (t : List ℕ) → length t / keptStride < mostKept → length t / keptStride ≡ keptRoom t
-unfolding keptRoom
-kept-room-lent t h = sym (min-eq-right (omega arith))
+use Rattle.judge.specs.Sound.{rightlyKeptBy, soundBy, sessionOf}
+use Rattle.clauses.specs.Rows.{rowsOf, Rows}
+use Rattle.clauses.specs.RowsLaws.{notEmpty, Passed, passed-stops, passed-turn, passed-ends}
 
 -- Kept rows ------------------------------------------------------------------------------------------------------------
 

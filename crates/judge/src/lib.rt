@@ -1,91 +1,19 @@
 // The session check, refusal 12 (document 01, "Numbers of refusal"), alone. It compares in place and alters nothing. Above
-// `joins`.
+// `joins`, `rooms` and `clauses`.
 ghost use mathlib.Core.Path.{_≡_};
 ghost use Prim.Native.Nat.{_*_, _≤_};
 ghost use lib.ListN.{length};
 ghost use Rattle.document.specs.Lists.{every};
-ghost use Rattle.document.specs.Limits.{seenStride, keptStride, mostStates};
+ghost use Rattle.document.specs.Limits.{keptStride, mostStates};
 ghost use Rattle.document.specs.Positions.{holds};
-ghost use Rattle.document.specs.Combinations.{zeroPast};
-ghost use Rattle.document.specs.Tables.{seenRows, keptRows, seenRoom, keptRoom};
-ghost use Rattle.document.specs.Session.{ascending, zeroBetween};
+ghost use Rattle.document.specs.Tables.{seenRows, keptRows};
 ghost use Rattle.ordered.specs.Rows.{SeenInOrder};
-ghost use Rattle.judge.specs.Sound.{rightlyKeptBy, soundBy, sessionOf, rowsOf, Rows};
-ghost use Rattle.judge.specs.RowsLaws.{notEmpty};
+ghost use Rattle.judge.specs.Sound.{rightlyKeptBy, soundBy, sessionOf};
 ghost use Rattle.judge.specs.SoundLaws.{seenStands, keptStands};
 use limits::Combination;
 use limits::KEPT_STRIDE;
 use limits::SEEN_STRIDE;
 use limits::WIDTH;
-
-// "at most 1,024 rows", "at most 3,000 rows" ("One event").
-pub const MOST_SEEN: usize = 1024;
-
-pub const MOST_KEPT: usize = 3000;
-
-// Clauses of the check --------------------------------------------------------------------------------------------------
-
-// Whether the combination of each row precedes the next row's.
-fn rows_ascend(t: &[u32], stride: usize, n: usize) -> bool
-    requires { ⌜ Rows stride n (now t) ⌝ }
-    ensures { λ r. ⌜ r ≡ ascending (rowsOf stride n (now (t .entry))) ⌝ }
-{
-    let mut i: usize = 1;
-    while i < n {
-        let low = combos::row_at(t, (i - 1) * stride);
-        let high = combos::row_at(t, i * stride);
-        if !combos::precedes(low, high) {
-            return false;
-        }
-        i += 1;
-    }
-    true
-}
-
-// Whether no seen row is empty.
-fn rows_bound(t: &[u32], n: usize) -> bool
-    requires { ⌜ n * seenStride ≤ length (now t) ⌝ }
-    ensures { λ r. ⌜ r ≡ every notEmpty (rowsOf seenStride n (now (t .entry))) ⌝ }
-{
-    let mut i: usize = 0;
-    while i < n {
-        if combos::is_empty(combos::row_at(t, i * SEEN_STRIDE)) {
-            return false;
-        }
-        i += 1;
-    }
-    true
-}
-
-// Whether the numbers of each row past the parameters are 0.
-fn rows_within(t: &[u32], stride: usize, n: usize, parameters: usize) -> bool
-    requires { ⌜ Rows stride n (now t) ⌝ }
-    ensures { λ r. ⌜ r ≡ every (zeroPast parameters) (rowsOf stride n (now (t .entry))) ⌝ }
-{
-    let mut i: usize = 0;
-    while i < n {
-        if !combos::zero_past(parameters, combos::row_at(t, i * stride)) {
-            return false;
-        }
-        i += 1;
-    }
-    true
-}
-
-// Whether the numbers from a place up to another are 0.
-fn zero_between(t: &[u32], from: usize, to: usize) -> bool
-    requires { ⌜ to ≤ length (now t) ⌝ }
-    ensures { λ r. ⌜ r ≡ zeroBetween from to (now (t .entry)) ⌝ }
-{
-    let mut p = from;
-    while p < to {
-        if t[p] != 0 {
-            return false;
-        }
-        p += 1;
-    }
-    true
-}
 
 fn wide(x: u32) -> usize
     ensures { λ r. ⌜ r ≡ x ⌝ }
@@ -139,67 +67,42 @@ fn rows_rightly_kept(
     true
 }
 
-// Rooms -----------------------------------------------------------------------------------------------------------------
-
-// "Room is the smaller of that limit and the whole rows lent".
-pub fn seen_room(t: &[u32]) -> usize
-    ensures { λ r. ⌜ (r ≡ seenRoom (now (t .entry))) × (r * seenStride ≤ length (now (t .entry))) ⌝ }
-{
-    let rows = t.len() / SEEN_STRIDE;
-    if MOST_SEEN <= rows {
-        return MOST_SEEN;
-    }
-    rows
-}
-
-pub fn kept_room(t: &[u32]) -> usize
-    ensures { λ r. ⌜ (r ≡ keptRoom (now (t .entry))) × (r * keptStride ≤ length (now (t .entry))) ⌝ }
-{
-    let rows = t.len() / KEPT_STRIDE;
-    if MOST_KEPT <= rows {
-        return MOST_KEPT;
-    }
-    rows
-}
-
-// The check -------------------------------------------------------------------------------------------------------------
-
 // Whether the seen table stands by itself: its count is within the room, its rows ascend, none is empty, none binds a number
 // past the parameters, and the room past them is 0.
 fn seen_stands(seen: &[u32], n: usize, parameters: usize) -> bool
     ensures { λ r. ⌜ r ≡ seenStands parameters n (now (seen .entry)) ⌝ }
 {
-    let room = seen_room(seen);
+    let room = rooms::seen_room(seen);
     if room < n {
         return false;
     }
-    if !rows_ascend(seen, SEEN_STRIDE, n) {
+    if !clauses::rows_ascend(seen, SEEN_STRIDE, n) {
         return false;
     }
-    if !rows_bound(seen, n) {
+    if !clauses::rows_bound(seen, n) {
         return false;
     }
-    if !rows_within(seen, SEEN_STRIDE, n, parameters) {
+    if !clauses::rows_within(seen, SEEN_STRIDE, n, parameters) {
         return false;
     }
-    zero_between(seen, n * SEEN_STRIDE, room * SEEN_STRIDE)
+    clauses::zero_between(seen, n * SEEN_STRIDE, room * SEEN_STRIDE)
 }
 
 // The same of the kept table, whose rows may be empty.
 fn kept_stands(kept: &[u32], m: usize, parameters: usize) -> bool
     ensures { λ r. ⌜ r ≡ keptStands parameters m (now (kept .entry)) ⌝ }
 {
-    let room = kept_room(kept);
+    let room = rooms::kept_room(kept);
     if room < m {
         return false;
     }
-    if !rows_ascend(kept, KEPT_STRIDE, m) {
+    if !clauses::rows_ascend(kept, KEPT_STRIDE, m) {
         return false;
     }
-    if !rows_within(kept, KEPT_STRIDE, m, parameters) {
+    if !clauses::rows_within(kept, KEPT_STRIDE, m, parameters) {
         return false;
     }
-    zero_between(kept, m * KEPT_STRIDE, room * KEPT_STRIDE)
+    clauses::zero_between(kept, m * KEPT_STRIDE, room * KEPT_STRIDE)
 }
 
 // Whether the session is taken; where not, it is refused 12. It takes the counts of parameters and states and the hopeful

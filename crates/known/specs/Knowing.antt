@@ -2,7 +2,7 @@
 -- Assumes nothing.
 use mathlib.Core.Path.{_≡_}
 use Rattle.document.specs.Property.{Property}
-use Rattle.property.specs.Meaning.{Asks, Hopes}
+use Rattle.hopes.specs.Hoping.{Asks, Hopes}
 use Rattle.moves.specs.declared.Known.{Known}
 
 -- what is worked out once of a property

@@ -16,7 +16,7 @@ pub fn work_out(p: Property) -> Known
     Known {
         parameters: p.parameters,
         states: p.states,
-        hopeful: property::hopeful(p),
-        asked: property::asked_states(p),
+        hopeful: hopes::hopeful(p),
+        asked: hopes::asked_states(p),
     }
 }

@@ -1,4 +1,2 @@
 pub mod Meaning
-pub mod Steps
 pub mod RangeLaws
-pub mod LeadsLaws

@@ -1,14 +1,12 @@
--- Document 01, "The table": what the code's property table means, field by field, and what is promised of its bits.
+-- Document 01, "The table": what the code's property table means, field by field, and when it is in range.
 -- Assumes nothing.
-use Prim.Native.Nat.{ℕ, _+_, _*_, _^_}
-use mathlib.Core.Path.{_≡_}
+use Prim.Native.Nat.{ℕ, _+_, _*_, _^_, _≤_, _<_}
 use mathlib.Core.Bool.{Bool, _&&_}
 use mathlib.Core.List.{List}
 use lib.ListN.{getD}
 use lib.Dec.{leb, ltb}
 use Rattle.document.specs.Lists.{everyBelow}
 use Rattle.document.specs.Limits.{width, mostEvents, mostStates}
-use Rattle.document.specs.Positions.{holds}
 use Rattle.document.specs.Property as document
 use Rattle.property.specs.declared.Property.{Property}
 
@@ -41,17 +39,8 @@ rowFits next events states s = everyBelow events (λ e. ltb (getD next (s * most
 unfoldable pub rowsFit : List ℕ → List ℕ → ℕ → ℕ → ℕ → Bool
 rowsFit next verdicts events states n = everyBelow n (λ s. leb (getD verdicts s 0) 2 && rowFits next events states s)
 
--- the bits of r are those of the first n states whose verdict is asked for; of all states
-pub record Asking (asked : ℕ) (verdicts : List ℕ) (n r : ℕ) : Type 0 where
-  pub says : (s : ℕ) → holds r s ≡ (ltb s n && document.asksFor asked (getD verdicts s 0))
-
-pub record Asks (p : document.Property) (r : ℕ) : Type 0 where
-  pub says : (s : ℕ) → holds r s ≡ (ltb s (p .states) && document.isAsked p s)
-
--- the bits of r are the states from which one or more of the allowed events lead to a marked state
-pub record Leading (p : document.Property) (marked allowed r : ℕ) : Type 0 where
-  pub says : (s : ℕ) → holds r s ≡ document.leads p (holds marked) (holds allowed) s
-
--- the bits of r are the hopeful states
-pub record Hopes (p : document.Property) (r : ℕ) : Type 0 where
-  pub says : (s : ℕ) → holds r s ≡ document.hopeful p s
+-- the table leads nowhere but to its states, and its counts are within the limits
+pub record Within (next : List ℕ) (events states : ℕ) : Type 0 where
+  pub few-events : events ≤ mostEvents
+  pub few-states : states ≤ mostStates
+  pub entry : (s e : ℕ) → s < states → e < events → getD next (s * mostEvents + e) 0 < states

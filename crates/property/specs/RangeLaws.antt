@@ -14,7 +14,7 @@ use Rattle.document.specs.Property.{Property, inRange, setOf, nextState, verdic
 use Rattle.basics.specs.Tests.{and-left, and-right}
 use Rattle.words.specs.Range.{in-range-range}
 use Rattle.property.specs.Meaning.{countsFit, setsFit, rowFits, rowsFit}
-use Rattle.property.specs.Steps.{Within}
+use Rattle.property.specs.Meaning.{Within}
 
 -- a test over all numbers below n, by the last of them
 every-last : (f : ℕ → Bool) (n : ℕ) → 0 < n → everyBelow n f ≡ f (n - 1) && everyBelow (n - 1) f

@@ -1,16 +1,13 @@
-// The property table as a plain value, its check (refusal 11), and the hopeful states (document 01, "The table").
-// Above `bits`. The face: `Property` and `in_range`.
+// The property table as a plain value, and its check, refusal 11 (document 01, "The table"). The face: `Property` and `in_range`.
 //
-//     A table is taken exactly if `in_range` holds of it; its numbers may be any. What is hopeful is worked out from any
-//     table that is taken: `hopeful(p)` has bit s where one or more events lead from s to a verdict asked for.
+//     A table is taken exactly if `in_range` holds of it; its numbers may be any.
 ghost use mathlib.Core.Path.{_≡_};
 ghost use mathlib.Core.Bool.{true, _&&_};
 ghost use Prim.Native.Nat.{_≤_, _<_};
 ghost use lib.Dec.{leb};
 ghost use Rattle.document.specs.Limits.{width, mostEvents, mostStates};
-ghost use Rattle.document.specs.Property.{inRange, asksFor};
-ghost use Rattle.property.specs.Meaning.{meaning, countsFit, setsFit, rowFits, rowsFit, Leading, Hopes, Asks};
-ghost use Rattle.property.specs.Steps.{Within, Ways, AllWays, Round, Reached};
+ghost use Rattle.document.specs.Property.{inRange};
+ghost use Rattle.property.specs.Meaning.{meaning, countsFit, setsFit, rowFits, rowsFit};
 use limits::EventSets;
 use limits::MOST_EVENTS;
 use limits::MOST_STATES;
@@ -22,9 +19,6 @@ use limits::WIDTH;
 pub const LAST_VERDICT: u8 = 2;
 
 const ALL_VERDICTS: usize = 3;
-
-// Every event that can be declared.
-const EVERY_EVENT: u64 = 65535;
 
 // Counts, the parameters that each event binds (bit k for parameter k), the state that event e leads to from state s (at
 // s * 16 + e), the verdict of each state, and the verdicts asked for. Entries past the counts mean nothing.
@@ -38,7 +32,7 @@ pub struct Property {
     pub verdicts: Verdicts,
 }
 
-fn wide(x: u8) -> usize
+pub fn wide(x: u8) -> usize
     ensures { λ r. ⌜ r ≡ x ⌝ }
 {
     x as usize
@@ -134,116 +128,4 @@ pub fn in_range(p: Property) -> bool
     let next = p.next;
     let verdicts = p.verdicts;
     rows_fit(&next, &verdicts, p.events, p.states)
-}
-
-// Whether a verdict is among those asked for.
-pub fn asks_for(asked: u8, verdict: u8) -> bool
-    ensures { λ r. ⌜ r ≡ asksFor asked verdict ⌝ }
-{
-    if verdict == 0 {
-        return false;
-    }
-    let place = verdict - 1;
-    if 8 <= place {
-        return false;
-    }
-    (asked >> place) % 2 == 1
-}
-
-// The states whose verdict is asked for, as bits.
-pub fn asked_states(p: Property) -> u64
-    requires { ⌜ inRange (meaning p) ≡ true ⌝ }
-    ensures { λ r. ⌜ Asks (meaning p) r ⌝ }
-{
-    let verdicts = p.verdicts;
-    let asked = p.asked;
-    let states = p.states;
-    let mut found = 0u64;
-    let mut s: usize = 0;
-    while s < states {
-        found = found | bits::set_if(asks_for(asked, verdicts[s]), bits::only(s));
-        s += 1;
-    }
-    found
-}
-
-// The states that an allowed event leads to from state s, as bits.
-fn ways(next: &Transitions, s: usize, events: usize, states: usize, allowed: u64) -> u64
-    requires { ⌜ Within (now next) events states × (s < states) ⌝ }
-    ensures { λ r. ⌜ Ways (now (next .entry)) allowed events s r ⌝ }
-{
-    let mut found = 0u64;
-    let mut e: usize = 0;
-    while e < events {
-        let to = wide(next[s * MOST_EVENTS + e]);
-        found = found | bits::set_if(bits::has(allowed, e), bits::only(to));
-        e += 1;
-    }
-    found
-}
-
-// For each state the states that an allowed event leads to from it: the one pass over the table that `leads` makes.
-fn all_ways(next: &Transitions, events: usize, states: usize, allowed: u64) -> [u64; MOST_STATES]
-    requires { ⌜ Within (now next) events states ⌝ }
-    ensures { λ r. ⌜ AllWays (now (next .entry)) allowed events states r ⌝ }
-{
-    let mut found = [0u64; MOST_STATES];
-    let mut s: usize = 0;
-    while s < states {
-        found[s] = ways(next, s, events, states, allowed);
-        s += 1;
-    }
-    found
-}
-
-// One round: the states from which an event leads to one of a set of states.
-fn round(ways: &[u64; MOST_STATES], states: usize, goal: u64) -> u64
-    requires { ⌜ states ≤ mostStates ⌝ }
-    ensures { λ r. ⌜ Round (now (ways .entry)) goal states r ⌝ }
-{
-    let mut found = 0u64;
-    let mut s: usize = 0;
-    while s < states {
-        found = found | bits::set_if(bits::meet(ways[s], goal), bits::only(s));
-        s += 1;
-    }
-    found
-}
-
-// The states from which one or more events lead to a marked state, from the ways of each state. Each round is one operation
-// on a word for each state, and there are at most as many rounds as states: the first that finds nothing new is the last.
-fn rounds(ways: &[u64; MOST_STATES], states: usize, marked: u64) -> u64
-    requires { ⌜ states ≤ mostStates ⌝ }
-    ensures { λ r. ⌜ Reached (now (ways .entry)) states marked r ⌝ }
-{
-    let mut found = 0u64;
-    let mut left = states;
-    while 0 < left {
-        let more = round(ways, states, marked | found);
-        if more == found {
-            return found;
-        }
-        found = more;
-        left -= 1;
-    }
-    found
-}
-
-// The states from which one or more allowed events lead to a marked state, as bits. The table is gone through once.
-pub fn leads(p: Property, marked: u64, allowed: u64) -> u64
-    requires { ⌜ inRange (meaning p) ≡ true ⌝ }
-    ensures { λ r. ⌜ Leading (meaning p) marked allowed r ⌝ }
-{
-    let next = p.next;
-    let ways = all_ways(&next, p.events, p.states, allowed);
-    rounds(&ways, p.states, marked)
-}
-
-// The hopeful states, as bits: those from which one or more events lead to a verdict asked for.
-pub fn hopeful(p: Property) -> u64
-    requires { ⌜ inRange (meaning p) ≡ true ⌝ }
-    ensures { λ r. ⌜ Hopes (meaning p) r ⌝ }
-{
-    let marked = asked_states(p);
-    leads(p, marked, EVERY_EVENT)
 }

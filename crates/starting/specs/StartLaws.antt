@@ -17,7 +17,7 @@ use Rattle.document.specs.Tables.{seenRoom, keptRoom}
 use Rattle.document.specs.Session.{sessionWith, lentTables, firstKept, start, startLeaves}
 use Rattle.basics.specs.Tests.{decided}
 use Rattle.ordered.specs.Writes.{ZeroIn}
-use Rattle.property.specs.Meaning.{Hopes}
+use Rattle.hopes.specs.Hoping.{Hopes}
 use Rattle.tables.specs.Tables.{keptFrom, seenFrom}
 use Rattle.tables.specs.TablesLaws.{row-is}
 use Rattle.tables.specs.WholeLaws.{kept-table, seen-table}

@@ -18,12 +18,12 @@ pub fn start(p: Property, seen: &mut [u32], kept: &mut [u32]) -> Answered
     if !property::in_range(p) {
         return steps::counts_alone(refusals::BAD_PROPERTY, 0, 0);
     }
-    let first = moves::one(bits::has(property::hopeful(p), 0));
-    let room = judge::kept_room(kept);
+    let first = moves::one(bits::has(hopes::hopeful(p), 0));
+    let room = rooms::kept_room(kept);
     if room < first {
         return steps::counts_alone(refusals::NO_ROOM_FOR_KEPT, 0, 0);
     }
-    ordered::clear(seen, 0, judge::seen_room(seen) * SEEN_STRIDE);
+    ordered::clear(seen, 0, rooms::seen_room(seen) * SEEN_STRIDE);
     ordered::clear(kept, 0, room * KEPT_STRIDE);
     steps::counts_alone(refusals::TAKEN, 0, first)
 }

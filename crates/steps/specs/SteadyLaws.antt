@@ -22,7 +22,7 @@ use Rattle.slices.specs.ListsLaws.{in-keepIf, in-map}
 use Rattle.slices.specs.OrderLaws.{combinations, ascending-of}
 use Rattle.slices.specs.SessionLaws.{seenRoom-holds, keptRoom-holds}
 use Rattle.slices.specs.SessionBackLaws.{keptOf-width}
-use Rattle.property.specs.Meaning.{Asks, Hopes}
+use Rattle.hopes.specs.Hoping.{Asks, Hopes}
 use Rattle.judge.specs.Sound.{rightlyKeptBy, soundBy-sound, sessionOf}
 use Rattle.judge.specs.SoundLaws.{Clauses, clauses-of}
 use Rattle.tables.specs.Tables.{keptFrom}

@@ -1,7 +1,7 @@
 -- `judge::rows_rightly_kept` meets its contract: the rows passed are rightly kept.
 -- Assumes nothing.
 use Rattle.judge.specs.SoundLaws.{keptOfRow, kept-stops, kept-turn, kept-ends}
-use Rattle.judge.specs.RowsLaws.{Passed, passed-begins}
+use Rattle.clauses.specs.RowsLaws.{Passed, passed-begins}
 use Rattle.document.specs.Limits.{keptStride, mostStates}
 use Rattle.ordered.specs.Rows.{SeenInOrder}
 use Rattle.document.specs.Positions.{holds}

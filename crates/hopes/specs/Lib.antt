@@ -1,0 +1,3 @@
+pub mod Hoping
+pub mod Steps
+pub mod LeadsLaws
