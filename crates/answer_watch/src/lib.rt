@@ -60,14 +60,14 @@ fn print_refusal(text: &mut [u8], refusal: u8) -> usize {
 
 // The heading, of declarations that are taken.
 fn print_heading(text: &mut [u8], declarations: &[u8]) -> usize {
-    if text.len() < lines::MOST_HEADING {
+    if text.len() < heading::MOST_HEADING {
         return read::STUCK;
     }
     let reading = declaring::read(declarations);
     if reading.refusal != refusals::TAKEN {
         return read::STUCK;
     }
-    lines::put_heading(text, 0, declarations)
+    heading::put_heading(text, 0, declarations)
 }
 
 // The lines of the rows from an offset on, after what is printed up to a place.

@@ -20,8 +20,8 @@ use Rattle.document.specs.Printing.{decimal, wordOf, withCommas, valueText, lin
 use Rattle.basics.specs.Tests.{decided}
 use Rattle.decimals.specs.Decimals.{valueDigits}
 use Rattle.decimals.specs.DecimalsLaws.{decimal-usize, decimal-value, decimal-byte}
-use Rattle.lines.specs.Lines.{refusedNumberText, refusedNumberLine, mostValue, mostLine}
-use Rattle.lines.specs.LinesLaws.{commas-are, refused-line-number}
+use Rattle.lineparts.specs.Lines.{refusedNumberText, refusedNumberLine, mostValue, mostLine}
+use Rattle.lineparts.specs.LinesLaws.{commas-are, refused-line-number}
 
 -- Pieces ------------------------------------------------------------------------------------------------------------------
 

@@ -1,4 +1,1 @@
-pub mod Lines
-pub mod LinesLaws
-pub mod HeadingLaws
 pub mod BoundsLaws

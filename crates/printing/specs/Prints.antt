@@ -13,7 +13,7 @@ use Rattle.document.specs.Log.{nextAt}
 use Rattle.document.specs.Printing.{reportLines, refusedLine}
 use Rattle.judge.specs.Sound.{sessionOf}
 use Rattle.decimals.specs.Written.{Written}
-use Rattle.lines.specs.Lines.{mostLine}
+use Rattle.lineparts.specs.Lines.{mostLine}
 use Rattle.runs.specs.PrintPart.{PrintedTo, linesFirst}
 use Rattle.rowlines.specs.RowLines.{mostLines}
 use Rattle.printing.specs.declared.Printed.{Printed}

@@ -23,8 +23,8 @@ use Rattle.slices.specs.TestsLaws.{so, true-of, and-of}
 use Rattle.slices.specs.MovesLaws.{length-reportsAfter}
 use Rattle.judge.specs.Sound.{sessionOf}
 use Rattle.decimals.specs.Written.{Written}
-use Rattle.lines.specs.Lines.{mostLine}
-use Rattle.lines.specs.LinesLaws.{refused-line-number}
+use Rattle.lineparts.specs.Lines.{mostLine}
+use Rattle.lineparts.specs.LinesLaws.{refused-line-number}
 use Rattle.moves.specs.Steps.{stepOf, stateIn, outcomeBy}
 use Rattle.steps.specs.declared.Answered.{Answered}
 use Rattle.steps.specs.Steps.{stepBy, answered, Leaves}

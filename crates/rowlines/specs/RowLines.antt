@@ -5,7 +5,7 @@ use mathlib.Core.Bool.{Bool, cond, _&&_}
 use mathlib.Core.List.{List}
 use lib.ListN.{length}
 use lib.Dec.{eqb, leb, ltb}
-use Rattle.lines.specs.Lines.{mostLine, refusedNumberLine}
+use Rattle.lineparts.specs.Lines.{mostLine, refusedNumberLine}
 use Rattle.document.specs.Limits.{width, reportStride}
 use Rattle.document.specs.Printing.{reportLines}
 use Rattle.steps.specs.declared.Answered.{Answered}

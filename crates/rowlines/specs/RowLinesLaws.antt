@@ -12,7 +12,7 @@ use borrow.Author.Tests.{eq-eqb, ne-eqb, eqb-true, eqb-false, lt-ltb, le-ltb}
 use Rattle.document.specs.Printing.{reportLines}
 use Rattle.basics.specs.Tests.{decided}
 use Rattle.decimals.specs.Written.{Written}
-use Rattle.lines.specs.Lines.{refusedNumberLine, mostLine}
+use Rattle.lineparts.specs.Lines.{refusedNumberLine, mostLine}
 use Rattle.steps.specs.declared.Answered.{Answered}
 use Rattle.rowlines.specs.RowLines.{mostLines, fitsRow, answerText}
 

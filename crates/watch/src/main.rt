@@ -4,7 +4,7 @@
 ghost use Prim.Native.Nat.{_≤_};
 ghost use mathlib.Core.Path.{_≡_};
 ghost use lib.ListN.{length};
-ghost use Rattle.lines.specs.Lines.{mostRefusal, mostHeading};
+ghost use Rattle.lineparts.specs.Lines.{mostRefusal, mostHeading};
 use property::Property;
 use window::Window;
 

@@ -1,7 +1,7 @@
 // What the program writes: lines that stand in a text, to standard output.
 ghost use Prim.Native.Nat.{_≤_};
 ghost use lib.ListN.{length};
-ghost use Rattle.lines.specs.Lines.{mostRefusal, mostHeading};
+ghost use Rattle.lineparts.specs.Lines.{mostRefusal, mostHeading};
 use libc::STDOUT_FILENO;
 
 // Writes out the first bytes of a text; a write that fails is said on standard error.
@@ -32,6 +32,6 @@ pub fn print_heading(text: &mut [u8], declarations: &[u8]) -> bool
     if reading.refusal != refusals::TAKEN {
         return false;
     }
-    let filled = lines::put_heading(text, 0, declarations);
+    let filled = heading::put_heading(text, 0, declarations);
     write_out(text, filled)
 }

@@ -1,6 +1,6 @@
 -- `lines::put_refusal` meets its contract.
 -- Assumes nothing.
-use Rattle.lines.specs.LinesLaws.{refusal-written}
+use Rattle.lineparts.specs.LinesLaws.{refusal-written}
 use borrow.Author.Needs.{needs}
 use Rattle.lines.proofs.put_refusal.Statement.{statement}
 use Rattle.lines.proofs.put_refusal.Tie as tie

@@ -1,6 +1,6 @@
 -- `lines::put_refused` meets its contract.
 -- Assumes nothing.
-use Rattle.lines.specs.LinesLaws.{refused-line-written}
+use Rattle.lineparts.specs.LinesLaws.{refused-line-written}
 use borrow.Author.Needs.{needs}
 use Rattle.lines.proofs.put_refused.Statement.{statement}
 use Rattle.lines.proofs.put_refused.Tie as tie

@@ -1,6 +1,6 @@
 -- `lines::put_report` meets its contract.
 -- Assumes nothing.
-use Rattle.lines.specs.LinesLaws.{report-written}
+use Rattle.lineparts.specs.LinesLaws.{report-written}
 use borrow.Author.Needs.{needs}
 use Rattle.lines.proofs.put_report.Statement.{statement}
 use Rattle.lines.proofs.put_report.Tie as tie

@@ -6,8 +6,8 @@ use lib.ListN.{length}
 use Rattle.document.specs.Limits.{width, reportStride}
 use Rattle.document.specs.Printing.{reportLines}
 use Rattle.decimals.specs.Written.{Written}
-use Rattle.lines.specs.Lines.{mostLine}
-use Rattle.lines.specs.LinesLaws.{reports-begin, reports-turn, reports-end}
+use Rattle.lineparts.specs.Lines.{mostLine}
+use Rattle.lineparts.specs.LinesLaws.{reports-begin, reports-turn, reports-end}
 use borrow.Author.Needs.{needs}
 use Rattle.lines.proofs.put_reports.Statement.{statement}
 use Rattle.lines.proofs.put_reports.Tie as tie

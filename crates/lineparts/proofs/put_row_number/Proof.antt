@@ -1,11 +1,11 @@
--- `lines::put_row_number` meets its contract.
+-- `lineparts::put_row_number` meets its contract.
 -- Assumes nothing.
 use native.Mathlib.Omega.{arith}
 use Rattle.decimals.specs.DecimalsLaws.{decimal-usize}
-use Rattle.lines.specs.LinesLaws.{number-written}
+use Rattle.lineparts.specs.LinesLaws.{number-written}
 use borrow.Author.Needs.{needs}
-use Rattle.lines.proofs.put_row_number.Statement.{statement}
-use Rattle.lines.proofs.put_row_number.Tie as tie
+use Rattle.lineparts.proofs.put_row_number.Statement.{statement}
+use Rattle.lineparts.proofs.put_row_number.Tie as tie
 
 put-decimal-requires : tie.Need-put-decimal-requires
 put-decimal-requires c κs = omega (arith, decimal-usize (c .before .before .args .row) (search needs))

@@ -1,11 +1,11 @@
--- `lines::put_refused_text` meets its contract.
+-- `lineparts::put_refused_text` meets its contract.
 -- Assumes nothing.
 use native.Mathlib.Omega.{arith}
 use Rattle.decimals.specs.DecimalsLaws.{decimal-byte}
-use Rattle.lines.specs.LinesLaws.{refused-text-written}
+use Rattle.lineparts.specs.LinesLaws.{refused-text-written}
 use borrow.Author.Needs.{needs}
-use Rattle.lines.proofs.put_refused_text.Statement.{statement}
-use Rattle.lines.proofs.put_refused_text.Tie as tie
+use Rattle.lineparts.proofs.put_refused_text.Statement.{statement}
+use Rattle.lineparts.proofs.put_refused_text.Tie as tie
 
 slice-aggregate-put-bytes : tie.Need-slice-aggregate-put-bytes
 slice-aggregate-put-bytes c = search needs

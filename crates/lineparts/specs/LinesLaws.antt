@@ -19,7 +19,7 @@ use Rattle.decimals.specs.Written.{Written}
 use Rattle.decimals.specs.WrittenLaws.{written-none, written-byte, written-then, written-within}
 use Rattle.decimals.specs.Decimals.{mostDigits}
 use Rattle.decimals.specs.DecimalsLaws.{decimal-usize, decimal-value, decimal-byte}
-use Rattle.lines.specs.Lines.{valuesText, refusedNumberText, refusedNumberLine, mostValue, mostValues, mostVerdict, mostRefused, mostLine, mostRefusal, lineEndBytes}
+use Rattle.lineparts.specs.Lines.{valuesText, refusedNumberText, refusedNumberLine, mostValue, mostValues, mostVerdict, mostRefused, mostLine, mostRefusal, lineEndBytes}
 
 -- A number with the widest bound; a value ---------------------------------------------------------------------------------
 

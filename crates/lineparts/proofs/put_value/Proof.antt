@@ -1,11 +1,11 @@
--- `lines::put_value` meets its contract.
+-- `lineparts::put_value` meets its contract.
 -- Assumes nothing.
 use native.Mathlib.Omega.{arith}
 use Rattle.decimals.specs.DecimalsLaws.{decimal-value}
-use Rattle.lines.specs.LinesLaws.{value-unbound, value-bound}
+use Rattle.lineparts.specs.LinesLaws.{value-unbound, value-bound}
 use borrow.Author.Needs.{needs}
-use Rattle.lines.proofs.put_value.Statement.{statement}
-use Rattle.lines.proofs.put_value.Tie as tie
+use Rattle.lineparts.proofs.put_value.Statement.{statement}
+use Rattle.lineparts.proofs.put_value.Tie as tie
 
 put-byte-requires : tie.Need-put-byte-requires
 put-byte-requires c κs = search needs

@@ -1,9 +1,9 @@
--- `lines::put_heading` meets its contract.
+-- `heading::put_heading` meets its contract.
 -- Assumes nothing.
-use Rattle.lines.specs.HeadingLaws.{heading-written}
+use Rattle.heading.specs.HeadingLaws.{heading-written}
 use borrow.Author.Needs.{needs}
-use Rattle.lines.proofs.put_heading.Statement.{statement}
-use Rattle.lines.proofs.put_heading.Tie as tie
+use Rattle.heading.proofs.put_heading.Statement.{statement}
+use Rattle.heading.proofs.put_heading.Tie as tie
 
 slice-aggregate-put-bytes : tie.Need-slice-aggregate-put-bytes
 slice-aggregate-put-bytes c = search needs

@@ -1,10 +1,10 @@
--- `lines::put_names` meets its contract.
+-- `heading::put_names` meets its contract.
 -- Assumes nothing.
 use native.Mathlib.Omega.{arith}
-use Rattle.lines.specs.HeadingLaws.{names-within, names-room, names-written}
+use Rattle.heading.specs.HeadingLaws.{names-within, names-room, names-written}
 use borrow.Author.Needs.{needs}
-use Rattle.lines.proofs.put_names.Statement.{statement}
-use Rattle.lines.proofs.put_names.Tie as tie
+use Rattle.heading.proofs.put_names.Statement.{statement}
+use Rattle.heading.proofs.put_names.Tie as tie
 
 row-end-requires : tie.Need-row-end-requires
 row-end-requires c κs = search needs

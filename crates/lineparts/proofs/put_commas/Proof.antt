@@ -1,14 +1,14 @@
--- `lines::put_commas` meets its contract: the commas before the place reached stand.
+-- `lineparts::put_commas` meets its contract: the commas before the place reached stand.
 -- Assumes nothing.
 use Prim.Native.Nat.{_≤_, _+_, _-_}
 use mathlib.Core.Path.{_≡_}
 use lib.ListN.{length, replicate, length-set}
 use Rattle.document.specs.Classes.{comma}
 use Rattle.decimals.specs.Written.{Written}
-use Rattle.lines.specs.LinesLaws.{commas-begin, commas-turn, commas-end}
+use Rattle.lineparts.specs.LinesLaws.{commas-begin, commas-turn, commas-end}
 use borrow.Author.Needs.{needs}
-use Rattle.lines.proofs.put_commas.Statement.{statement}
-use Rattle.lines.proofs.put_commas.Tie as tie
+use Rattle.lineparts.proofs.put_commas.Statement.{statement}
+use Rattle.lineparts.proofs.put_commas.Tie as tie
 
 abbrev Inv-loop : tie.InvT-loop
 Inv-loop text₀ at count j₀ text j = (j ≤ count) × (at + count ≤ length text) × (length text ≡ length text₀) × Written at j (replicate j comma) text₀ text (at + j)

@@ -1,9 +1,9 @@
--- `lines::put_verdict` meets its contract.
+-- `lineparts::put_verdict` meets its contract.
 -- Assumes nothing.
-use Rattle.lines.specs.LinesLaws.{verdict-match, verdict-fail}
+use Rattle.lineparts.specs.LinesLaws.{verdict-match, verdict-fail}
 use borrow.Author.Needs.{needs}
-use Rattle.lines.proofs.put_verdict.Statement.{statement}
-use Rattle.lines.proofs.put_verdict.Tie as tie
+use Rattle.lineparts.proofs.put_verdict.Statement.{statement}
+use Rattle.lineparts.proofs.put_verdict.Tie as tie
 
 slice-aggregate-put-bytes : tie.Need-slice-aggregate-put-bytes
 slice-aggregate-put-bytes c = search needs

@@ -1,15 +1,15 @@
--- `lines::put_values` meets its contract: the values before the one reached stand.
+-- `lineparts::put_values` meets its contract: the values before the one reached stand.
 -- Assumes nothing.
 use Prim.Native.Nat.{_≤_, _+_, _-_, _*_}
 use mathlib.Core.Path.{_≡_}
 use lib.ListN.{length, take, drop}
 use Rattle.document.specs.Limits.{width}
 use Rattle.decimals.specs.Written.{Written}
-use Rattle.lines.specs.Lines.{valuesText, mostValue, mostValues}
-use Rattle.lines.specs.LinesLaws.{values-begin, values-turn, values-end}
+use Rattle.lineparts.specs.Lines.{valuesText, mostValue, mostValues}
+use Rattle.lineparts.specs.LinesLaws.{values-begin, values-turn, values-end}
 use borrow.Author.Needs.{needs}
-use Rattle.lines.proofs.put_values.Statement.{statement}
-use Rattle.lines.proofs.put_values.Tie as tie
+use Rattle.lineparts.proofs.put_values.Statement.{statement}
+use Rattle.lineparts.proofs.put_values.Tie as tie
 
 abbrev Inv-loop : tie.InvT-loop
 Inv-loop text₀ at parameters reports from next₀ j₀ text next j = (j ≤ parameters) × (parameters ≤ width) × (at + mostValues ≤ length text) × (length text ≡ length text₀) × (from + width ≤ length reports) × Written at (j * mostValue) (valuesText (take j (drop from reports))) text₀ text next

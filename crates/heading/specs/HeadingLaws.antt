@@ -27,7 +27,7 @@ use Rattle.fields.specs.SplitLaws.{parts-first}
 use Rattle.rows.specs.TextLaws.{first-part, first-within}
 use Rattle.decimals.specs.Written.{Written}
 use Rattle.decimals.specs.WrittenLaws.{written-then, written-as, written-within}
-use Rattle.lines.specs.Lines.{namesOf, headingOf, mostNames, mostHeading, lineEndBytes}
+use Rattle.lineparts.specs.Lines.{namesOf, headingOf, mostNames, mostHeading, lineEndBytes}
 
 -- A row is its fields with commas between ---------------------------------------------------------------------------------
 
