@@ -15,7 +15,7 @@ use Rattle.document.specs.Translate.{anew, propertyOf}
 use Rattle.readings.specs.declared.Reading.{Reading}
 use Rattle.readings.specs.Readings.{Stands}
 use Rattle.sets.specs.Shapes.{shapeOf}
-use Rattle.pattern.specs.declared.Parsed.{Parsed}
+use Rattle.asking.specs.declared.Parsed.{Parsed}
 use Rattle.property.specs.declared.Property.{Property}
 use Rattle.translate.specs.declared.Translated.{Translated}
 

@@ -23,8 +23,8 @@ use Rattle.places.specs.NamesAt.{namesAt, Inside}
 use Rattle.readings.specs.ReadingsLaws.{reads-taken, reads-refused, padded-at}
 use Rattle.sets.specs.Shapes.{shapeOf}
 use Rattle.sets.specs.ShapesLaws.{tabulate-is}
-use Rattle.pattern.specs.declared.Parsed.{Parsed}
-use Rattle.pattern.specs.Texts.{refusedText, takenText, parsedOf}
+use Rattle.asking.specs.declared.Parsed.{Parsed}
+use Rattle.asking.specs.Texts.{refusedText, takenText, parsedOf}
 use Rattle.states.specs.declared.Table.{Table}
 use Rattle.states.specs.Tabling.{tableOf, Tabled}
 use Rattle.states.specs.TableLaws.{table-over, table-property}

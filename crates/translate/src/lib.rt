@@ -40,7 +40,7 @@ fn refused_table(refusal: u8, at: usize) -> Translated
 }
 
 // The property table from declarations and a pattern that were read, or 10.
-fn table_of(d: readings::Reading, t: pattern::Parsed) -> Translated
+fn table_of(d: readings::Reading, t: asking::Parsed) -> Translated
     requires { ⌜ d .events ≤ mostEvents ⌝ }
     ensures { λ r. ⌜ Tables d t r ⌝ }
 {
@@ -81,7 +81,7 @@ pub fn translate(declarations: &[u8], pattern: &[u8]) -> Translated
     }
     let starts = d.starts;
     let sizes = d.sizes;
-    let t = pattern::parse(pattern, declarations, &starts, &sizes, d.events);
+    let t = asking::parse(pattern, declarations, &starts, &sizes, d.events);
     if t.refusal != refusals::TAKEN {
         return refused_table(t.refusal, t.at);
     }

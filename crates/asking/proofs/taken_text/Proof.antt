@@ -1,10 +1,10 @@
--- `pattern::taken_text` meets its contract.
+-- `asking::taken_text` meets its contract.
 -- Assumes nothing.
-use Rattle.pattern.specs.Texts.{takenText}
+use Rattle.asking.specs.Texts.{takenText}
 use Prim.Native.Nat.{_-_}
 use mathlib.Core.Path.{refl}
-use Rattle.pattern.proofs.taken_text.Statement.{statement}
-use Rattle.pattern.proofs.taken_text.Tie as tie
+use Rattle.asking.proofs.taken_text.Statement.{statement}
+use Rattle.asking.proofs.taken_text.Tie as tie
 
 returns : tie.Need-returns
 unfolding takenText

@@ -12,7 +12,7 @@ use Rattle.sets.specs.declared.Shape.{Shape}
 use Rattle.sets.specs.Shapes.{shapeOf}
 use Rattle.tokens.specs.Lexing.{askMatchKind, askFailKind, lexemesAt}
 use Rattle.parts.specs.declared.Part.{Part}
-use Rattle.pattern.specs.declared.Parsed.{Parsed}
+use Rattle.asking.specs.declared.Parsed.{Parsed}
 
 unfoldable pub refusedText : ℕ → ℕ → Parsed
 refusedText q at = record { refusal = q; at = at; asked = 0; shape = shapeOf epsilon }

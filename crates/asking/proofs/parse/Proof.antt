@@ -1,11 +1,11 @@
--- `pattern::parse` meets its contract: `ere`, `:`, an alternative, and what is asked for, each at the tokens that the one before it leaves.
+-- `asking::parse` meets its contract: `ere`, `:`, an alternative, and what is asked for, each at the tokens that the one before it leaves.
 -- Assumes nothing.
-use Rattle.pattern.specs.TextsLaws.{start-begins, parse-no-ere, parse-no-colon, parse-refused, parse-asks, ready-first}
+use Rattle.asking.specs.TextsLaws.{start-begins, parse-no-ere, parse-no-colon, parse-refused, parse-asks, ready-first}
 use Rattle.parts.specs.PartsLaws.{begins-after}
 use Prim.Native.Nat.{_-_}
 use borrow.Author.Needs.{needs}
-use Rattle.pattern.proofs.parse.Statement.{statement}
-use Rattle.pattern.proofs.parse.Tie as tie
+use Rattle.asking.proofs.parse.Statement.{statement}
+use Rattle.asking.proofs.parse.Tie as tie
 
 skip-requires : tie.Need-skip-requires
 skip-requires c κs = search needs

@@ -1,11 +1,11 @@
--- `pattern::asks` meets its contract: what the tokens after the pattern ask for decides.
+-- `asking::asks` meets its contract: what the tokens after the pattern ask for decides.
 -- Assumes nothing.
 use native.Mathlib.Omega.{arith}
-use Rattle.pattern.specs.TextsLaws.{asked-small, asks-none, asks-one, asks-wrong, asks-more, asks-both}
+use Rattle.asking.specs.TextsLaws.{asked-small, asks-none, asks-one, asks-wrong, asks-more, asks-both}
 use Prim.Native.Nat.{_-_}
 use borrow.Author.Needs.{needs}
-use Rattle.pattern.proofs.asks.Statement.{statement}
-use Rattle.pattern.proofs.asks.Tie as tie
+use Rattle.asking.proofs.asks.Statement.{statement}
+use Rattle.asking.proofs.asks.Tie as tie
 
 look-requires : tie.Need-look-requires
 look-requires c κs = search needs

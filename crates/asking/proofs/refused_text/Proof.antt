@@ -1,10 +1,10 @@
--- `pattern::refused_text` meets its contract.
+-- `asking::refused_text` meets its contract.
 -- Assumes nothing.
-use Rattle.pattern.specs.Texts.{refusedText}
+use Rattle.asking.specs.Texts.{refusedText}
 use Prim.Native.Nat.{_-_}
 use borrow.Author.Needs.{needs}
-use Rattle.pattern.proofs.refused_text.Statement.{statement}
-use Rattle.pattern.proofs.refused_text.Tie as tie
+use Rattle.asking.proofs.refused_text.Statement.{statement}
+use Rattle.asking.proofs.refused_text.Tie as tie
 
 empty-requires : tie.Need-empty-requires
 empty-requires c κs = search needs

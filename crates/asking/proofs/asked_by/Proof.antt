@@ -1,9 +1,9 @@
--- `pattern::asked_by` meets its contract: the two kinds that ask are looked for one after the other.
+-- `asking::asked_by` meets its contract: the two kinds that ask are looked for one after the other.
 -- Assumes nothing.
 use borrow.Author.Tests.{eq-eqb, ne-eqb}
 use Prim.Native.Nat.{_-_}
-use Rattle.pattern.proofs.asked_by.Statement.{statement}
-use Rattle.pattern.proofs.asked_by.Tie as tie
+use Rattle.asking.proofs.asked_by.Statement.{statement}
+use Rattle.asking.proofs.asked_by.Tie as tie
 
 returns : tie.Need-returns
 returns c = simp (eq-eqb _ _ (c .if1 .taken))

@@ -1,10 +1,10 @@
--- `pattern::is_ere` meets its contract: a name stands there, and it is `ere`.
+-- `asking::is_ere` meets its contract: a name stands there, and it is `ere`.
 -- Assumes nothing.
-use Rattle.pattern.specs.TextsLaws.{ere-missing, ere-here}
+use Rattle.asking.specs.TextsLaws.{ere-missing, ere-here}
 use Prim.Native.Nat.{_-_}
 use borrow.Author.Needs.{needs}
-use Rattle.pattern.proofs.is_ere.Statement.{statement}
-use Rattle.pattern.proofs.is_ere.Tie as tie
+use Rattle.asking.proofs.is_ere.Statement.{statement}
+use Rattle.asking.proofs.is_ere.Tie as tie
 
 returns : tie.Need-returns
 returns c = search (needs, ere-missing)
