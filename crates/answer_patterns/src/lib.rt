@@ -4,7 +4,6 @@ use batch::read;
 use batch::told::Told;
 
 mod patterns;
-pub mod properties;
 
 // The answer to the call of a word, whose items begin at a place; stuck if it is another group's.
 pub fn answer(word: &[u8], s: &[u8], at: usize, out: &mut [u8], filled: usize) -> Told {
@@ -12,5 +11,5 @@ pub fn answer(word: &[u8], s: &[u8], at: usize, out: &mut [u8], filled: usize) -
     if on_patterns.next != read::STUCK {
         return on_patterns;
     }
-    properties::answer(word, s, at, out, filled)
+    answer_properties::answer(word, s, at, out, filled)
 }

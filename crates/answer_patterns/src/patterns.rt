@@ -1,7 +1,6 @@
 // The calls on patterns (docs/CASES.md, `translate` and `verdicts`).
 ghost use mathlib.Core.Path.{_≡_};
 ghost use Prim.Native.Nat.{_+_, _<_, _^_};
-use crate::properties;
 use batch::read;
 use batch::told::Told;
 use batch::told::refused;
@@ -49,7 +48,7 @@ fn shown(out: &mut [u8], filled: usize, p: Property) -> usize {
     let begun = write::word(out, filled, b"table");
     let told = then_property(out, begun, p);
     let named = write::then_word(out, told, b"hopeful");
-    properties::then_hopeful(out, named, p)
+    answer_properties::then_hopeful(out, named, p)
 }
 
 // `translate` declarations pattern

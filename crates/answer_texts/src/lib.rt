@@ -4,13 +4,12 @@ use batch::read;
 use batch::told::Told;
 
 mod declarations;
-mod texts;
 
 // The answer to the call of a word, whose items begin at a place; stuck if it is another group's.
 pub fn answer(word: &[u8], s: &[u8], at: usize, out: &mut [u8], filled: usize) -> Told {
-    let on_texts = texts::answer(word, s, at, out, filled);
-    if on_texts.next != read::STUCK {
-        return on_texts;
+    let on_rows = answer_rows::answer(word, s, at, out, filled);
+    if on_rows.next != read::STUCK {
+        return on_rows;
     }
     declarations::answer(word, s, at, out, filled)
 }

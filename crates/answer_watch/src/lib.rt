@@ -82,8 +82,8 @@ fn print_rows(
     if text.len() < at {
         return read::STUCK;
     }
-    let mut seen = [0u32; session::SEEN_NUMBERS];
-    let mut kept = [0u32; session::KEPT_NUMBERS];
+    let mut seen = [0u32; rooms::SEEN_NUMBERS];
+    let mut kept = [0u32; rooms::KEPT_NUMBERS];
     let mut reports = [0u32; REPORT_NUMBERS];
     let started = starting::start(p, &mut seen, &mut kept);
     let d = printing::print(

@@ -1,13 +1,14 @@
 // Declarations read (document 01, "The declarations"): row by row, refusals 1 to 5 in the document's order. Above `rowrules`.
-ghost use Prim.Native.Nat.{_+_, _-_, _≤_, _<_};
+ghost use Prim.Native.Nat.{_≤_};
 ghost use lib.ListN.{length};
 ghost use Rattle.readings.specs.Readings.{Reads, Placed, RowReads};
+use readings::Reading;
 
 // Bytes of declarations or of a pattern (refusal 1).
 pub const TEXT_BYTES: usize = 4096;
 
 // A reading with the event of the row at a place, or that row's refusal.
-fn with_row(text: &[u8], at: usize, t: readings::Reading) -> readings::Reading
+fn with_row(text: &[u8], at: usize, t: Reading) -> Reading
     requires { ⌜ Placed (now text) t × (at ≤ length (now text)) ⌝ }
     ensures { λ r. ⌜ RowReads (now (text .entry)) at t r ⌝ }
 {
@@ -23,7 +24,7 @@ fn with_row(text: &[u8], at: usize, t: readings::Reading) -> readings::Reading
 }
 
 // Declarations as they stand in their text.
-pub fn read(text: &[u8]) -> readings::Reading
+pub fn read(text: &[u8]) -> Reading
     ensures { λ r. ⌜ Reads (now (text .entry)) r ⌝ }
 {
     if TEXT_BYTES < text.len() {

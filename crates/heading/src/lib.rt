@@ -1,7 +1,7 @@
 // The first line that the watch program prints (document 01, "The program and its example"). The caller sees to the room, by
 // lending `MOST_HEADING` bytes.
 ghost use mathlib.Core.Path.{_≡_};
-ghost use Prim.Native.Nat.{_+_, _*_, _≤_};
+ghost use Prim.Native.Nat.{_+_, _≤_};
 ghost use lib.ListN.{length};
 ghost use Rattle.document.specs.Refusals.{refusalOf};
 ghost use Rattle.document.specs.Declarations.{declarations};

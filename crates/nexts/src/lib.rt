@@ -1,6 +1,6 @@
 // What can come next (document 01, "The table"): the sets of numbers that the events lead to from a set. Above `sets`.
 ghost use mathlib.Core.Path.{_≡_};
-ghost use Prim.Native.Nat.{suc, _+_, _<_};
+ghost use Prim.Native.Nat.{suc};
 ghost use Rattle.document.specs.Limits.{mostNames};
 ghost use Rattle.nexts.specs.Nexts.{nextsOf, movesOf};
 use limits::MOST_EVENTS;

@@ -1,7 +1,7 @@
 // Names that stand at places of a text: where one of them stands among the others. For the names of declared events, which a
 // reading holds by their places.
 ghost use mathlib.Core.Path.{_≡_};
-ghost use Prim.Native.Nat.{_+_, _-_, _≤_, _<_};
+ghost use Prim.Native.Nat.{_≤_};
 ghost use Rattle.document.specs.Lists.{placeOf};
 ghost use Rattle.document.specs.Limits.{mostEvents};
 ghost use Rattle.places.specs.NamesAt.{namesAt, Inside};

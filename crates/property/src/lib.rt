@@ -2,7 +2,7 @@
 //
 //     A table is taken exactly if `in_range` holds of it; its numbers may be any.
 ghost use mathlib.Core.Path.{_≡_};
-ghost use mathlib.Core.Bool.{true, _&&_};
+ghost use mathlib.Core.Bool.{_&&_};
 ghost use Prim.Native.Nat.{_≤_, _<_};
 ghost use lib.Dec.{leb};
 ghost use Rattle.document.specs.Limits.{width, mostEvents, mostStates};

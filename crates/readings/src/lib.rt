@@ -1,7 +1,7 @@
 // What declarations say (document 01, "The declarations"), as the crates above hold it: counts, sets, and where each event's name
 // stands in the text, to be looked up by `places`. It is read by `declaring`.
 ghost use mathlib.Core.Path.{_≡_};
-ghost use Prim.Native.Nat.{_+_, _-_, _<_};
+ghost use Prim.Native.Nat.{_<_};
 ghost use Rattle.document.specs.Limits.{mostEvents};
 ghost use Rattle.readings.specs.Readings.{noneRead, oneMore};
 use limits::EventSets;

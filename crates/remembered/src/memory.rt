@@ -65,7 +65,7 @@ pub fn nothing() -> Memory {
 
 // `property` property
 fn set_property(s: &[u8], at: usize, m: Memory) -> Remembered {
-    let read = answer_patterns::properties::table(s, at);
+    let read = answer_properties::table(s, at);
     let p = read.property;
     let mut memory = m;
     memory.property = p;

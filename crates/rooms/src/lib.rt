@@ -12,6 +12,11 @@ pub const MOST_SEEN: usize = 1024;
 
 pub const MOST_KEPT: usize = 3000;
 
+// Numbers that the largest rooms of the seen and the kept table take: those past them are never read or written.
+pub const SEEN_NUMBERS: usize = MOST_SEEN * SEEN_STRIDE;
+
+pub const KEPT_NUMBERS: usize = MOST_KEPT * KEPT_STRIDE;
+
 // "Room is the smaller of that limit and the whole rows lent".
 pub fn seen_room(t: &[u32]) -> usize
     ensures { λ r. ⌜ (r ≡ seenRoom (now (t .entry))) × (r * seenStride ≤ length (now (t .entry))) ⌝ }

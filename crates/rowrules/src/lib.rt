@@ -1,7 +1,6 @@
 // What a row of declarations must be (document 01, "The declarations"): the header's refusal, and an event's after those read so
 // far, 5, 2, 3, 4 in this order.
 ghost use mathlib.Core.Path.{_≡_};
-ghost use Prim.Native.Nat.{_+_, _-_, _<_};
 ghost use Rattle.document.specs.Refusals.{refusalOf};
 ghost use Rattle.document.specs.Declarations.{headerRow, eventRow};
 ghost use Rattle.fields.specs.Split.{Split};

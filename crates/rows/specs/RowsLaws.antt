@@ -1,5 +1,5 @@
--- Laws of rows: what one byte more means for where a row ends, whether a test finds a byte, whether two parts are the same.
--- Each speaks of what is left of a list from a place on, as a loop over the list meets it.
+-- Laws of rows: what one byte more means for where a row ends, and whether one is stray. Each speaks of what is left of a text from
+-- a place on, as a loop over the text meets it.
 -- Assumes nothing.
 use Prim.Native.Nat.{ℕ, _+_, _≤_, _<_}
 use mathlib.Core.Path.{_≡_, refl, sym, ap, _∙_}

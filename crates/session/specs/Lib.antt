@@ -1,1 +1,1 @@
-pub mod FaceLaws
+pub mod EventLaws

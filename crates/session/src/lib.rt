@@ -9,15 +9,8 @@ ghost use Rattle.property.specs.Meaning.{meaning};
 ghost use Rattle.judge.specs.Sound.{sessionOf};
 ghost use Rattle.steps.specs.Steps.{Leaves};
 use limits::Combination;
-use limits::KEPT_STRIDE;
-use limits::SEEN_STRIDE;
 use property::Property;
 use steps::Answered;
-
-// Numbers that the largest rooms of the seen and the kept table take: those past them are never read or written.
-pub const SEEN_NUMBERS: usize = rooms::MOST_SEEN * SEEN_STRIDE;
-
-pub const KEPT_NUMBERS: usize = rooms::MOST_KEPT * KEPT_STRIDE;
 
 fn set_bits(x: u8) -> u64
     ensures { λ r. ⌜ r ≡ x ⌝ }

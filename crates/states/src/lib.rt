@@ -3,7 +3,7 @@
 //
 //     table_of(shape, events, TOTAL) is the table over so many events, or says that there are more than 64 states.
 ghost use mathlib.Core.Path.{_≡_};
-ghost use Prim.Native.Nat.{_+_, _≤_, _<_};
+ghost use Prim.Native.Nat.{_≤_};
 ghost use Rattle.document.specs.Limits.{mostEvents, mostStates};
 ghost use Rattle.states.specs.Tabling.{verdictFrom, verdictsFrom, Tabled};
 use limits::MOST_STATES;

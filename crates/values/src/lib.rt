@@ -2,7 +2,6 @@
 //
 //     value_of(b"17") is 17; value_of(b"017"), value_of(b"0") and value_of(b"4294967296") are 0: none of them says a value.
 ghost use mathlib.Core.Path.{_≡_};
-ghost use Prim.Native.Nat.{_+_, _<_};
 ghost use Rattle.document.specs.Rows.{valueOf};
 
 const ZERO: u8 = 48;

@@ -1,7 +1,7 @@
 -- `session::event` meets its contract: judged in the order of the refusals, then stepped.
 -- Assumes nothing.
 use Rattle.known.specs.KnowingLaws.{taken-property, known-states}
-use Rattle.session.specs.FaceLaws.{event-index, event-steady, event-property, event-session, event-number, event-values, event-steps}
+use Rattle.session.specs.EventLaws.{event-index, event-steady, event-property, event-session, event-number, event-values, event-steps}
 use Prim.Native.Nat.{_-_}
 use borrow.Author.Needs.{needs}
 use Rattle.session.proofs.event.Statement.{statement}
