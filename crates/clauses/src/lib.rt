@@ -17,8 +17,8 @@ pub fn rows_ascend(t: &[u32], stride: usize, n: usize) -> bool
 {
     let mut i: usize = 1;
     while i < n {
-        let low = combos::row_at(t, (i - 1) * stride);
-        let high = combos::row_at(t, i * stride);
+        let low = bound::row_at(t, (i - 1) * stride);
+        let high = bound::row_at(t, i * stride);
         if !combos::precedes(low, high) {
             return false;
         }
@@ -34,7 +34,7 @@ pub fn rows_bound(t: &[u32], n: usize) -> bool
 {
     let mut i: usize = 0;
     while i < n {
-        if combos::is_empty(combos::row_at(t, i * SEEN_STRIDE)) {
+        if bound::is_empty(bound::row_at(t, i * SEEN_STRIDE)) {
             return false;
         }
         i += 1;
@@ -49,7 +49,7 @@ pub fn rows_within(t: &[u32], stride: usize, n: usize, parameters: usize) -> boo
 {
     let mut i: usize = 0;
     while i < n {
-        if !combos::zero_past(parameters, combos::row_at(t, i * stride)) {
+        if !bound::zero_past(parameters, bound::row_at(t, i * stride)) {
             return false;
         }
         i += 1;

@@ -1,27 +1,14 @@
 -- What the code answers for a row of a log. Document 01, "Log rows and the run".
 -- Assumes nothing.
 use Prim.Native.Nat.{ℕ}
-use mathlib.Core.Bool.{Bool, true, false, cond, _||_}
 use mathlib.Core.List.{List, []}
 use lib.ListN.{take, replicate}
-use lib.Dec.{eqb}
-use Rattle.document.specs.Lists.{some}
 use Rattle.document.specs.Limits.{width}
 use Rattle.document.specs.Refusals.{number, Answer, taken, refused}
-use Rattle.document.specs.Classes.{cr, lf, quote}
 use Rattle.document.specs.Declarations.{Declared}
-use Rattle.document.specs.Log.{RowEvent, isBadValue, valuesOf}
+use Rattle.document.specs.Log.{RowEvent}
 use Rattle.places.specs.NamesAt.{namesAt}
 use Rattle.entries.specs.declared.Entry.{Entry}
-use Rattle.entries.specs.declared.Values.{Values}
-
--- "a CR, LF or quote"
-abbrev pub isBarred : ℕ → Bool
-isBarred b = eqb b cr || eqb b lf || eqb b quote
-
--- the values of a row's fields after the first
-unfoldable pub valuesSaid : List (List ℕ) → Values
-valuesSaid fs = cond (some isBadValue fs) (record { bad = true; values = replicate width 0 }) (record { bad = false; values = valuesOf fs })
 
 -- what a row needs of the declarations: how many parameters there are, the event names, and the events' sets
 unfoldable pub declaredAt : List ℕ → List ℕ → List ℕ → List ℕ → ℕ → ℕ → Declared

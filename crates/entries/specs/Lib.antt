@@ -1,4 +1,3 @@
 pub mod Entries
-pub mod ValuesLaws
 pub mod EntriesLaws
 pub mod RowLaws

@@ -17,8 +17,9 @@ use Rattle.fields.specs.SplitLaws.{walk-begins, walk-field}
 use Rattle.places.specs.NamesAt.{namesAt}
 use Rattle.places.specs.PlacesLaws.{names-length}
 use Rattle.entries.specs.declared.Entry.{Entry}
-use Rattle.entries.specs.declared.Values.{Values}
-use Rattle.entries.specs.Entries.{isBarred, valuesSaid, declaredAt, entryOf}
+use Rattle.rowfields.specs.declared.Values.{Values}
+use Rattle.rowfields.specs.Said.{isBarred, valuesSaid}
+use Rattle.entries.specs.Entries.{declaredAt, entryOf}
 use Rattle.entries.specs.EntriesLaws.{refusedEntry, entry-long, entry-fields, entry-unknown, entry-bad, entry-wrong, entry-right}
 
 -- the event's name is the part of the row up to its first comma

@@ -45,7 +45,7 @@ fn find_kept(verdicts: &Verdicts, kept: &[u32], m: usize, c: Combination) -> Loo
         return nothing_held(refusals::TAKEN);
     }
     let place = at * KEPT_STRIDE;
-    if !combos::equal(combos::row_at(kept, place), c) {
+    if !combos::equal(bound::row_at(kept, place), c) {
         return nothing_held(refusals::TAKEN);
     }
     let state = kept[place + WIDTH];
@@ -69,7 +69,7 @@ pub fn lookup(p: Property, seen: &[u32], n: usize, kept: &[u32], m: usize, c: Co
     if !judge::sound(k.parameters, k.states, k.hopeful, seen, n, kept, m) {
         return nothing_held(refusals::BAD_SESSION);
     }
-    if !combos::zero_past(p.parameters, c) {
+    if !bound::zero_past(p.parameters, c) {
         return nothing_held(refusals::BAD_LOOKUP);
     }
     let verdicts = p.verdicts;

@@ -66,7 +66,7 @@ fn weigh(
     ensures { λ r. ⌜ r ≡ weightOf (now (next .entry)) (known .hopeful) (known .asked) e b (seenRows n (now (seen .entry))) (keptAt width (now (kept .entry)) (i * keptStride)) ⌝ }
 {
     let at = i * KEPT_STRIDE;
-    let k = combos::row_at(kept, at);
+    let k = bound::row_at(kept, at);
     if combos::includes(k, b) {
         let to = moves::next_state(next, kept[at + WIDTH], e);
         return moved_weight(to, known.hopeful, known.asked);

@@ -21,8 +21,8 @@ use Rattle.slices.specs.TestsLaws.{so, not-so, true-of, false-of, of-equal, equ
 use Rattle.slices.specs.CombinationsLaws.{includes-trans, includes-antisym, includes-empty, includes-join, join-includes-left, join-includes-right, included-compatible, length-empty, length-join}
 use Rattle.slices.specs.JoinSeenLaws.{OfWidth, length-joinSeen, joinSeen-includes, joinSeen-least}
 use Rattle.slices.specs.TablesBackLaws.{length-numbersAt}
-use Rattle.combos.specs.Restrictions.{restricted}
-use Rattle.combos.specs.RestrictionsLaws.{boundOf, restricted-bound, binds-bound, bound-less, includes-restricted, length-restricted}
+use Rattle.bound.specs.Restrictions.{restricted}
+use Rattle.bound.specs.RestrictionsLaws.{boundOf, restricted-bound, binds-bound, bound-less, includes-restricted, length-restricted}
 use Rattle.ordered.specs.RowsLaws.{tabulate-in}
 
 pub seen-width : (n : ℕ) (t : List ℕ) → OfWidth width (seenRows n t)

@@ -18,8 +18,8 @@ fn gather(acc: Combination, set: u64, c: Combination, seen: &[u32], n: usize) ->
     requires { ⌜ SeenInOrder n (now seen) ⌝ }
     ensures { λ r. ⌜ r ≡ gathered set c (seenRows n (now (seen .entry))) acc ⌝ }
 {
-    let part = combos::restricted(set, c);
-    if !combos::binds_exactly(set, part) {
+    let part = bound::restricted(set, c);
+    if !bound::binds_exactly(set, part) {
         return acc;
     }
     if combos::includes(acc, part) {
@@ -51,8 +51,8 @@ fn covers(k: Combination, set: u64, c: Combination, seen: &[u32], n: usize) -> b
     requires { ⌜ SeenInOrder n (now seen) ⌝ }
     ensures { λ r. ⌜ r ≡ coversAt set c k (seenRows n (now (seen .entry))) ⌝ }
 {
-    let part = combos::restricted(set, c);
-    if !combos::binds_exactly(set, part) {
+    let part = bound::restricted(set, c);
+    if !bound::binds_exactly(set, part) {
         return true;
     }
     if combos::includes(k, part) {

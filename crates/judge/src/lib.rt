@@ -57,7 +57,7 @@ fn rows_rightly_kept(
     let mut i: usize = 0;
     while i < m {
         let at = i * KEPT_STRIDE;
-        let c = combos::row_at(kept, at);
+        let c = bound::row_at(kept, at);
         let state = wide(kept[at + WIDTH]);
         if !rightly_kept(c, state, states, hopeful, seen, n) {
             return false;

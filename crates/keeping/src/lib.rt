@@ -30,7 +30,7 @@ fn settle(
     ensures { λ r. ⌜ SettledRow (now (next .entry)) (known .hopeful) e i o b (now (kept .entry)) (now (kept .exit)) r ⌝ }
 {
     let at = i * KEPT_STRIDE;
-    let k = combos::row_at(kept, at);
+    let k = bound::row_at(kept, at);
     let s = kept[at + WIDTH];
     if !combos::includes(k, b) {
         ordered::write_kept(kept, o * KEPT_STRIDE, k, s);
@@ -85,7 +85,7 @@ fn grow_row(
     ensures { λ r. ⌜ GrownRow (now (next .entry)) (known .hopeful) e n i m b (now (seen .entry)) (now (kept .entry)) (now (kept .exit)) r ⌝ }
 {
     let at = i * KEPT_STRIDE;
-    let k = combos::row_at(kept, at);
+    let k = bound::row_at(kept, at);
     if combos::includes(k, b) {
         return m;
     }

@@ -11,7 +11,7 @@ use lib.Seq.{getD-set-same, getD-set-other}
 use Rattle.document.specs.Limits.{width, seenStride, keptStride}
 use Rattle.document.specs.Tables.{numbersAt}
 use Rattle.ordered.specs.Writes.{Raised, Pasted, SeenInserted, Put, Inserted, ZeroIn}
-use Rattle.combos.specs.NumbersLaws.{getD-numbersAt}
+use Rattle.slices.specs.NumbersLaws.{getD-numbersAt}
 
 pub raised-begins : (by n : ℕ) (t : List ℕ) → Raised by n n t t
 raised-begins by n t = record { low = λ k h. refl; mid = λ k h g. absurd (omega arith); high = λ k h. refl }

@@ -24,7 +24,7 @@ pub fn place(t: &[u32], base: usize, stride: usize, n: usize, c: Combination) ->
     let mut high = n;
     while low < high {
         let middle = low + (high - low) / 2;
-        if combos::precedes(combos::row_at(t, base + middle * stride), c) {
+        if combos::precedes(bound::row_at(t, base + middle * stride), c) {
             low = middle + 1;
         } else {
             high = middle;
@@ -42,7 +42,7 @@ pub fn seen_holds(seen: &[u32], n: usize, c: Combination) -> bool
     if n <= at {
         return false;
     }
-    combos::equal(c, combos::row_at(seen, at * SEEN_STRIDE))
+    combos::equal(c, bound::row_at(seen, at * SEEN_STRIDE))
 }
 
 // Rows written ----------------------------------------------------------------------------------------------------------

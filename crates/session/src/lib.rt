@@ -42,7 +42,7 @@ pub fn event(
         return steps::counts_alone(refusals::NO_SUCH_EVENT, n, m);
     }
     let sets = p.sets;
-    if !combos::binds_exactly(set_bits(sets[e]), values) {
+    if !bound::binds_exactly(set_bits(sets[e]), values) {
         return steps::counts_alone(refusals::WRONG_VALUES, n, m);
     }
     let next = p.next;

@@ -20,7 +20,7 @@ use Rattle.document.specs.Tables.{numbersAt}
 use Rattle.basics.specs.Tests.{decided}
 use Rattle.slices.specs.TestsLaws.{so, not-so}
 use Rattle.slices.specs.TablesBackLaws.{length-numbersAt}
-use Rattle.combos.specs.NumbersLaws.{getD-numbersAt, Included, included-begins, included-stops, included-turn}
+use Rattle.slices.specs.NumbersLaws.{getD-numbersAt, Included, included-begins, included-stops, included-turn}
 use Rattle.ordered.specs.Writes.{Put}
 use Rattle.ordered.specs.WritesLaws.{state-put}
 use Rattle.tables.specs.TablesLaws.{row-is, kept-move, kept-more}

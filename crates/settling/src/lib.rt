@@ -75,7 +75,7 @@ pub fn tell(
     ordered::write_kept(
         reports,
         from + count * KEPT_STRIDE,
-        combos::row_at(kept, at),
+        bound::row_at(kept, at),
         verdict,
     );
     count + 1
@@ -94,7 +94,7 @@ pub fn settle(hopeful: u64, kept: &mut [u32], i: usize, o: usize, to: u32) -> us
         kept[at + WIDTH] = to;
         return o + 1;
     }
-    ordered::write_kept(kept, o * KEPT_STRIDE, combos::row_at(kept, at), to);
+    ordered::write_kept(kept, o * KEPT_STRIDE, bound::row_at(kept, at), to);
     o + 1
 }
 
@@ -108,7 +108,7 @@ pub fn stay(kept: &mut [u32], i: usize, o: usize)
     }
     let at = i * KEPT_STRIDE;
     let state = kept[at + WIDTH];
-    ordered::write_kept(kept, o * KEPT_STRIDE, combos::row_at(kept, at), state);
+    ordered::write_kept(kept, o * KEPT_STRIDE, bound::row_at(kept, at), state);
 }
 
 // The rows after the last ----------------------------------------------------------------------------------------------

@@ -26,3 +26,4 @@ pub mod LookupLaws
 pub mod EventLaws
 pub mod Demand3
 pub mod SingleAnswer
+pub mod NumbersLaws

@@ -18,7 +18,7 @@ use Rattle.document.specs.Tables.{numbersAt}
 use Rattle.slices.specs.TestsLaws.{false-of, and-of, or-of}
 use Rattle.slices.specs.TablesBackLaws.{length-numbersAt}
 use Rattle.slices.specs.TablesLaws.{keptAt}
-use Rattle.combos.specs.NumbersLaws.{getD-numbersAt, Included, included-begins, included-turn, included-ends}
+use Rattle.slices.specs.NumbersLaws.{getD-numbersAt, Included, included-begins, included-turn, included-ends}
 use Rattle.ordered.specs.RowsLaws.{tabulate-in}
 use Rattle.tables.specs.Tables.{keptFrom}
 use Rattle.tables.specs.TablesLaws.{kept-tabulated}

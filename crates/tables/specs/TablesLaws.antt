@@ -15,7 +15,7 @@ use Rattle.basics.specs.Lists.{tabulate-same}
 use Rattle.slices.specs.OrderLaws.{combinations}
 use Rattle.slices.specs.TablesBackLaws.{length-numbersAt}
 use Rattle.slices.specs.TablesLaws.{keptAt}
-use Rattle.combos.specs.NumbersLaws.{getD-numbersAt}
+use Rattle.slices.specs.NumbersLaws.{getD-numbersAt}
 use Rattle.ordered.specs.RowsLaws.{in-tabulate}
 use Rattle.tables.specs.Tables.{keptFrom, seenFrom}
 

@@ -32,7 +32,7 @@ fn report_row(
 {
     let more = count + 1;
     let at = i * KEPT_STRIDE;
-    let k = combos::row_at(kept, at);
+    let k = bound::row_at(kept, at);
     if !moves::moves(fresh, b, k, seen, n) {
         return count;
     }

@@ -1,6 +1,6 @@
 -- `combos::compatible` meets its contract: what is left from each number on is compatible if the whole is.
 -- Assumes nothing.
-use Rattle.combos.specs.NumbersLaws.{Suited, suited-begins, suited-stops, suited-turn, suited-ends}
+use Rattle.slices.specs.NumbersLaws.{Suited, suited-begins, suited-stops, suited-turn, suited-ends}
 use Rattle.document.specs.Limits.{width}
 use Prim.Native.Nat.{_-_}
 use borrow.Author.Needs.{needs}

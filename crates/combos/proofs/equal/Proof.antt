@@ -1,6 +1,6 @@
 -- `combos::equal` meets its contract: what is left from each number on is the same if the whole is.
 -- Assumes nothing.
-use Rattle.combos.specs.NumbersLaws.{Same, same-begins, same-stops, same-turn, same-ends}
+use Rattle.slices.specs.NumbersLaws.{Same, same-begins, same-stops, same-turn, same-ends}
 use Rattle.document.specs.Limits.{width}
 use Prim.Native.Nat.{_-_}
 use borrow.Author.Needs.{needs}

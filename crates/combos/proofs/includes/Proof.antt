@@ -1,6 +1,6 @@
 -- `combos::includes` meets its contract: what is left from each number on is included if the whole is.
 -- Assumes nothing.
-use Rattle.combos.specs.NumbersLaws.{Included, included-begins, included-stops, included-turn, included-ends}
+use Rattle.slices.specs.NumbersLaws.{Included, included-begins, included-stops, included-turn, included-ends}
 use Rattle.document.specs.Limits.{width}
 use Prim.Native.Nat.{_-_}
 use borrow.Author.Needs.{needs}

@@ -1,6 +1,6 @@
 -- `combos::join` meets its contract: the numbers written so far are those of the join.
 -- Assumes nothing.
-use Rattle.combos.specs.NumbersLaws.{Joined, joined-begins, joined-turn, joined-ends}
+use Rattle.slices.specs.NumbersLaws.{Joined, joined-begins, joined-turn, joined-ends}
 use Rattle.document.specs.Limits.{width}
 use Prim.Native.Nat.{_-_}
 use borrow.Author.Needs.{needs}

@@ -1,6 +1,6 @@
 -- `combos::precedes` meets its contract: what is left from each number on precedes if the whole does.
 -- Assumes nothing.
-use Rattle.combos.specs.NumbersLaws.{Ordered, ordered-begins, ordered-less, ordered-more, ordered-turn, ordered-ends}
+use Rattle.slices.specs.NumbersLaws.{Ordered, ordered-begins, ordered-less, ordered-more, ordered-turn, ordered-ends}
 use Rattle.document.specs.Limits.{width}
 use Prim.Native.Nat.{_-_}
 use borrow.Author.Needs.{needs}

@@ -1,7 +1,7 @@
 -- `settling::includes_at` meets its contract: what is left from each number on is included if the whole is.
 -- Assumes nothing.
 use Rattle.settling.specs.SettlingLaws.{comparing-begins, comparing-unbound, comparing-same, comparing-stops}
-use Rattle.combos.specs.NumbersLaws.{Included, included-ends}
+use Rattle.slices.specs.NumbersLaws.{Included, included-ends}
 use Rattle.document.specs.Limits.{width}
 use Rattle.document.specs.Tables.{numbersAt}
 use lib.ListN.{length}

@@ -1,13 +1,13 @@
--- `combos::row_at` meets its contract: the numbers written so far are those of the row.
+-- `bound::row_at` meets its contract: the numbers written so far are those of the row.
 -- Assumes nothing.
-use Rattle.combos.specs.NumbersLaws.{Written, row-begins, row-turn, row-ends}
+use Rattle.slices.specs.NumbersLaws.{Written, row-begins, row-turn, row-ends}
 use Rattle.document.specs.Limits.{width}
 use Rattle.document.specs.Tables.{numbersAt}
 use Prim.Native.Nat.{_≤_, _+_, _-_}
 use borrow.Author.Needs.{needs}
 use lib.ListN.{length}
-use Rattle.combos.proofs.row_at.Statement.{statement}
-use Rattle.combos.proofs.row_at.Tie as tie
+use Rattle.bound.proofs.row_at.Statement.{statement}
+use Rattle.bound.proofs.row_at.Tie as tie
 
 abbrev Inv-loop : tie.InvT-loop
 Inv-loop t at out₀ j₀ out j = (at + width ≤ length t) × Written (numbersAt width t at) out j

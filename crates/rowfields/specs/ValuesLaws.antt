@@ -19,7 +19,7 @@ use Rattle.document.specs.Rows.{fields, valueOf}
 use Rattle.document.specs.Log.{isBadValue, valuesOf}
 use Rattle.basics.specs.Tests.{decided}
 use Rattle.basics.specs.Lists.{zero-at}
-use Rattle.entries.specs.Entries.{isBarred}
+use Rattle.rowfields.specs.Said.{isBarred}
 use Rattle.basics.specs.Left.{some-over, some-found, some-goes-on}
 use Rattle.fields.specs.FieldsInTurn.{commas, commas-here, commas-later, commas-over, fields-count}
 

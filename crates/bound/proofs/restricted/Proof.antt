@@ -1,11 +1,11 @@
--- `combos::restricted` meets its contract: the numbers written so far are those of the restriction.
+-- `bound::restricted` meets its contract: the numbers written so far are those of the restriction.
 -- Assumes nothing.
-use Rattle.combos.specs.RestrictionsLaws.{Restricts, restricts-begins, restricts-turn, restricts-ends}
+use Rattle.bound.specs.RestrictionsLaws.{Restricts, restricts-begins, restricts-turn, restricts-ends}
 use Rattle.document.specs.Limits.{width}
 use Prim.Native.Nat.{_-_}
 use borrow.Author.Needs.{needs}
-use Rattle.combos.proofs.restricted.Statement.{statement}
-use Rattle.combos.proofs.restricted.Tie as tie
+use Rattle.bound.proofs.restricted.Statement.{statement}
+use Rattle.bound.proofs.restricted.Tie as tie
 
 abbrev Inv-loop : tie.InvT-loop
 Inv-loop set c out₀ j₀ out j = Restricts set c out j

@@ -15,8 +15,8 @@ use Rattle.document.specs.Positions.{holds}
 use Rattle.document.specs.Combinations.{includes, bindsFrom, bindsExactly}
 use Rattle.basics.specs.Tests.{decided}
 use Rattle.slices.specs.TestsLaws.{so, not-so, and-of, of-and, or-of, of-or, of-eqb, true-of}
-use Rattle.combos.specs.Restrictions.{restrictedFrom, restricted}
-use Rattle.combos.specs.NumbersLaws.{Written, written-none, written-more, written-all}
+use Rattle.bound.specs.Restrictions.{restrictedFrom, restricted}
+use Rattle.slices.specs.NumbersLaws.{Written, written-none, written-more, written-all}
 
 -- The turns of the loop that writes a restriction ----------------------------------------------------------------------
 

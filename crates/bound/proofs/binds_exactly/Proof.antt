@@ -1,11 +1,11 @@
--- `combos::binds_exactly` meets its contract: what is left from each number on binds its part of the set if the whole does.
+-- `bound::binds_exactly` meets its contract: what is left from each number on binds its part of the set if the whole does.
 -- Assumes nothing.
-use Rattle.combos.specs.NumbersLaws.{Bound, bound-begins, bound-stops, bound-turn, bound-ends}
+use Rattle.slices.specs.NumbersLaws.{Bound, bound-begins, bound-stops, bound-turn, bound-ends}
 use Rattle.document.specs.Limits.{width}
 use Prim.Native.Nat.{_-_}
 use borrow.Author.Needs.{needs}
-use Rattle.combos.proofs.binds_exactly.Statement.{statement}
-use Rattle.combos.proofs.binds_exactly.Tie as tie
+use Rattle.bound.proofs.binds_exactly.Statement.{statement}
+use Rattle.bound.proofs.binds_exactly.Tie as tie
 
 abbrev Inv-loop : tie.InvT-loop
 Inv-loop set c j₀ j = Bound set c j

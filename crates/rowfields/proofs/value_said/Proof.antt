@@ -1,10 +1,10 @@
--- `entries::value_said` meets its contract: a field that says no value is empty or bad.
+-- `rowfields::value_said` meets its contract: a field that says no value is empty or bad.
 -- Assumes nothing.
-use Rattle.entries.specs.EntriesLaws.{said-good, said-none, said-bad}
+use Rattle.rowfields.specs.SaidLaws.{said-good, said-none, said-bad}
 use borrow.Author.Needs.{needs}
 use Prim.Native.Nat.{_-_}
-use Rattle.entries.proofs.value_said.Statement.{statement}
-use Rattle.entries.proofs.value_said.Tie as tie
+use Rattle.rowfields.proofs.value_said.Statement.{statement}
+use Rattle.rowfields.proofs.value_said.Tie as tie
 
 value-of-requires : tie.Need-value-of-requires
 value-of-requires c κs = search needs

@@ -1,11 +1,11 @@
--- `entries::fields_said` meets its contract: the fields counted so far and the commas that are left make the row's fields.
+-- `rowfields::fields_said` meets its contract: the fields counted so far and the commas that are left make the row's fields.
 -- Assumes nothing.
 use lib.ListN.{length}
-use Rattle.entries.specs.ValuesLaws.{Counting, counting-begin, counting-barred, counting-low, counting-comma, counting-other, counting-high, counting-end}
+use Rattle.rowfields.specs.ValuesLaws.{Counting, counting-begin, counting-barred, counting-low, counting-comma, counting-other, counting-high, counting-end}
 use Prim.Native.Nat.{_-_}
 use borrow.Author.Needs.{needs}
-use Rattle.entries.proofs.fields_said.Statement.{statement}
-use Rattle.entries.proofs.fields_said.Tie as tie
+use Rattle.rowfields.proofs.fields_said.Statement.{statement}
+use Rattle.rowfields.proofs.fields_said.Tie as tie
 
 abbrev Inv-loop : tie.InvT-loop
 Inv-loop row count₀ i₀ count i = Counting row count i

@@ -1,11 +1,11 @@
--- `combos::zero_past` meets its contract: what is left past the parameters is 0 if the whole is.
+-- `bound::zero_past` meets its contract: what is left past the parameters is 0 if the whole is.
 -- Assumes nothing.
-use Rattle.combos.specs.NumbersLaws.{Cleared, cleared-begins, cleared-stops, cleared-turn, cleared-ends}
+use Rattle.slices.specs.NumbersLaws.{Cleared, cleared-begins, cleared-stops, cleared-turn, cleared-ends}
 use Rattle.document.specs.Limits.{width}
 use Prim.Native.Nat.{_-_}
 use borrow.Author.Needs.{needs}
-use Rattle.combos.proofs.zero_past.Statement.{statement}
-use Rattle.combos.proofs.zero_past.Tie as tie
+use Rattle.bound.proofs.zero_past.Statement.{statement}
+use Rattle.bound.proofs.zero_past.Tie as tie
 
 abbrev Inv-loop : tie.InvT-loop
 Inv-loop n c j₀ j = Cleared n c j

@@ -1,9 +1,9 @@
--- `entries::is_barred` meets its contract: each test that led to a return decides the rule.
+-- `rowfields::is_barred` meets its contract: each test that led to a return decides the rule.
 -- Assumes nothing.
-use Rattle.entries.specs.ValuesLaws.{barred-cr, barred-lf, barred-quote}
+use Rattle.rowfields.specs.ValuesLaws.{barred-cr, barred-lf, barred-quote}
 use borrow.Author.Needs.{needs}
-use Rattle.entries.proofs.is_barred.Statement.{statement}
-use Rattle.entries.proofs.is_barred.Tie as tie
+use Rattle.rowfields.proofs.is_barred.Statement.{statement}
+use Rattle.rowfields.proofs.is_barred.Tie as tie
 
 returns : tie.Need-returns
 returns c = search (needs, barred-cr)

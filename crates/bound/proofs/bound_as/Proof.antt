@@ -1,10 +1,10 @@
--- `combos::if_in` meets its contract: by whether the set holds the parameter.
+-- `bound::bound_as` meets its contract: by whether the set holds the parameter.
 -- Assumes nothing.
 use mathlib.Core.Path.{sym, _∙_}
 use Prim.Native.Nat.{_-_}
 use borrow.Author.Needs.{needs}
-use Rattle.combos.proofs.if_in.Statement.{statement}
-use Rattle.combos.proofs.if_in.Tie as tie
+use Rattle.bound.proofs.bound_as.Statement.{statement}
+use Rattle.bound.proofs.bound_as.Tie as tie
 
 has-requires : tie.Need-has-requires
 has-requires c κs = search needs
@@ -15,5 +15,5 @@ returns c = rw (sym (c .before .has .ensures) ∙ c .if1 .taken)
 returns-2 : tie.Need-returns-2
 returns-2 c = rw (sym (c .before .has .ensures) ∙ c .if1 .left)
 
-pub if-in-spec : {M : Type 1} → statement M
-if-in-spec = tie.close (tie.spec has-requires returns returns-2)
+pub bound-as-spec : {M : Type 1} → statement M
+bound-as-spec = tie.close (tie.spec has-requires returns returns-2)

@@ -1,3 +1,2 @@
 pub mod Restrictions
-pub mod NumbersLaws
 pub mod RestrictionsLaws

@@ -1,12 +1,12 @@
--- `entries::values_said` meets its contract: the values read so far are those of the fields before the loop's number, and the
+-- `rowfields::values_said` meets its contract: the values read so far are those of the fields before the loop's number, and the
 -- walk has reached the field before the next.
 -- Assumes nothing.
 use native.Mathlib.Omega.{arith}
-use Rattle.entries.specs.EntriesLaws.{Reading, reading-begins, reading-comma, reading-within, reading-bad, reading-more, reading-ends}
+use Rattle.rowfields.specs.SaidLaws.{Reading, reading-begins, reading-comma, reading-within, reading-bad, reading-more, reading-ends}
 use Prim.Native.Nat.{_-_}
 use borrow.Author.Needs.{needs}
-use Rattle.entries.proofs.values_said.Statement.{statement}
-use Rattle.entries.proofs.values_said.Tie as tie
+use Rattle.rowfields.proofs.values_said.Statement.{statement}
+use Rattle.rowfields.proofs.values_said.Tie as tie
 
 abbrev Inv-loop : tie.InvT-loop
 Inv-loop row from parameters values₀ end₀ k₀ values end k = Reading row values parameters k end

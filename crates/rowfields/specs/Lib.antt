@@ -1,0 +1,3 @@
+pub mod Said
+pub mod ValuesLaws
+pub mod SaidLaws
