@@ -5,10 +5,9 @@ ghost use mathlib.Core.Bool.{not, cond};
 ghost use Prim.Native.Nat.{_+_, _<_, _≤_};
 ghost use lib.ListN.{length};
 ghost use lib.Dec.{eqb};
-ghost use Rattle.document.specs.Lists.{equal};
 ghost use Rattle.document.specs.Limits.{width};
 ghost use Rattle.document.specs.Positions.{holds};
-ghost use Rattle.document.specs.Combinations.{emptyOf, bindsExactly, zeroPast};
+ghost use Rattle.document.specs.Combinations.{bindsExactly, zeroPast};
 ghost use Rattle.document.specs.Tables.{numbersAt};
 ghost use Rattle.bound.specs.Restrictions.{restricted};
 use limits::Combination;
@@ -34,13 +33,6 @@ fn if_in(set: u64, k: usize, x: u32) -> u32
         return x;
     }
     0
-}
-
-pub fn is_empty(c: Combination) -> bool
-    ensures { λ r. ⌜ r ≡ equal c (emptyOf width) ⌝ }
-{
-    let none = [0u32; WIDTH];
-    equal(c, none)
 }
 
 // Whether the combination binds exactly the parameters of a set.

@@ -34,7 +34,7 @@ pub fn rows_bound(t: &[u32], n: usize) -> bool
 {
     let mut i: usize = 0;
     while i < n {
-        if bound::is_empty(bound::row_at(t, i * SEEN_STRIDE)) {
+        if combos::is_empty(bound::row_at(t, i * SEEN_STRIDE)) {
             return false;
         }
         i += 1;

@@ -4,7 +4,8 @@ ghost use mathlib.Core.Path.{_≡_};
 ghost use mathlib.Core.Bool.{_||_, cond};
 ghost use lib.Dec.{eqb};
 ghost use Rattle.document.specs.Lists.{equal};
-ghost use Rattle.document.specs.Combinations.{includes, compatible, join, precedes};
+ghost use Rattle.document.specs.Limits.{width};
+ghost use Rattle.document.specs.Combinations.{emptyOf, includes, compatible, join, precedes};
 use limits::Combination;
 use limits::WIDTH;
 
@@ -105,4 +106,11 @@ pub fn join(c: Combination, b: Combination) -> Combination
         j += 1;
     }
     out
+}
+
+pub fn is_empty(c: Combination) -> bool
+    ensures { λ r. ⌜ r ≡ equal c (emptyOf width) ⌝ }
+{
+    let none = [0u32; WIDTH];
+    equal(c, none)
 }

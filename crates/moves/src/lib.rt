@@ -70,7 +70,7 @@ pub fn is_new(b: Combination, seen: &[u32], n: usize) -> bool
     requires { ⌜ SeenInOrder n (now seen) ⌝ }
     ensures { λ r. ⌜ r ≡ isNew b (seenRows n (now (seen .entry))) ⌝ }
 {
-    if bound::is_empty(b) {
+    if combos::is_empty(b) {
         return false;
     }
     !ordered::seen_holds(seen, n, b)
