@@ -17,7 +17,7 @@ use Rattle.judging.specs.Judging.{Judges}
 use Rattle.judging.specs.JudgingLaws.{judges-good, judges-bad}
 use Rattle.turns.specs.Stepping.{readAs, Sure}
 use Rattle.turns.specs.SureLaws.{read-same, good-sure}
-use Rattle.printing.specs.declared.Printed.{Printed}
+use Rattle.printrow.specs.declared.Printed.{Printed}
 use Rattle.printing.specs.Printing.{printRows, printCall, printsTo}
 use Rattle.printing.specs.Prints.{printedOf, PrintLeaves}
 use Rattle.printing.specs.PrintingLaws.{rows-alike}

@@ -23,9 +23,10 @@ use Rattle.turns.specs.Stepping.{rowStepBy, RowGoes, readAs, Sure}
 use Rattle.turns.specs.SureLaws.{row-step-same, row-goes}
 use Rattle.rowlines.specs.RowLines.{fitsRow}
 use Rattle.rowlines.specs.RowLinesLaws.{written-tight}
-use Rattle.printing.specs.declared.Printed.{Printed}
+use Rattle.printrow.specs.declared.Printed.{Printed}
 use Rattle.printing.specs.Printing.{printRows}
-use Rattle.printing.specs.Prints.{printedOf, PrintLeaves, rowTextBy, RowPrinted, OnTheWay}
+use Rattle.printing.specs.Prints.{printedOf, PrintLeaves, OnTheWay}
+use Rattle.printrow.specs.RowPrints.{rowTextBy, RowPrinted}
 use Rattle.printing.specs.PrintingLaws.{rows-ended, rows-full, rows-row}
 
 -- Over declarations and a property ---------------------------------------------------------------------------------------

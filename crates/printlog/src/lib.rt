@@ -26,7 +26,7 @@ fn stopped(c: Course) -> Course {
 }
 
 // How far a call of the library printed it.
-fn printed_to(d: printing::Printed) -> Course {
+fn printed_to(d: printrow::Printed) -> Course {
     Course {
         number: d.number,
         seen: d.seen,

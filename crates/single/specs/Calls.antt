@@ -43,7 +43,7 @@ use Rattle.reader.proofs.reader_at as reader-at
 use Rattle.reader.proofs.hand_out as hand-out
 use Rattle.reader.proofs.place_at.Reads as place-at
 use Rattle.reader.proofs.part.Reads as part
-use Rattle.printing.specs.declared.Printed.{Printed}
+use Rattle.printrow.specs.declared.Printed.{Printed}
 use Rattle.printing.proofs.print.Reads as print
 use Rattle.single.specs.Leaves.{part-at-single, start-leaves-single, leaves-single, run-leaves-single, print-leaves-single}
 

@@ -15,7 +15,7 @@ use Rattle.steps.specs.Steps.{Leaves}
 use Rattle.turns.specs.declared.Ran.{Ran}
 use Rattle.turns.specs.Turns.{RunLeaves}
 use Rattle.runs.specs.PrintPart.{PrintedTo}
-use Rattle.printing.specs.declared.Printed.{Printed}
+use Rattle.printrow.specs.declared.Printed.{Printed}
 use Rattle.printing.specs.Prints.{PrintLeaves}
 
 -- a part that is given back: its bytes and its place

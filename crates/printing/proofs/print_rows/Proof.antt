@@ -8,7 +8,7 @@ use Rattle.judge.specs.Sound.{sessionOf}
 use Rattle.turns.specs.Stepping.{readAs, Sure}
 use Rattle.printing.specs.Printing.{printRows}
 use Rattle.printing.specs.Prints.{OnTheWay}
-use Rattle.printing.specs.RowLaws.{row-fits}
+use Rattle.printrow.specs.RowLaws.{row-fits}
 use Rattle.printing.specs.RowsLaws.{way-start, way-ended, way-full, way-goes, way-less, way-on}
 use borrow.Author.Needs.{needs}
 use Rattle.printing.proofs.print_rows.Statement.{statement}

@@ -30,10 +30,10 @@ use Rattle.steps.specs.declared.Answered.{Answered}
 use Rattle.steps.specs.Steps.{stepBy, answered, Leaves}
 use Rattle.turns.specs.Stepping.{rowStepBy}
 use Rattle.turns.specs.TurnsLaws.{row-is, step-made, row-room}
-use Rattle.printing.specs.declared.Printed.{Printed}
+use Rattle.printrow.specs.declared.Printed.{Printed}
 use Rattle.rowlines.specs.RowLines.{mostLines, fitsRow, answerText, TextFits}
 use Rattle.rowlines.specs.RowLinesLaws.{lines-enough}
-use Rattle.printing.specs.Prints.{rowTextBy, RowFits, RowPrinted}
+use Rattle.printrow.specs.RowPrints.{rowTextBy, RowFits, RowPrinted}
 
 pub row-fits : (r : Printed) (log text : List ℕ) (f : Bool) → r .next < length log → f ≡ fitsRow (length text) (r .filled) (r .kept) (r .number)
     → not f ≡ false → RowFits r log text

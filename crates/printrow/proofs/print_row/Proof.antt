@@ -1,11 +1,11 @@
--- `printing::print_row` meets its contract.
+-- `printrow::print_row` meets its contract.
 -- Assumes nothing.
 use native.Mathlib.Omega.{arith}
 use Rattle.rows.specs.TextLaws.{row-within}
-use Rattle.printing.specs.RowLaws.{text-fits, row-printed}
+use Rattle.printrow.specs.RowLaws.{text-fits, row-printed}
 use borrow.Author.Needs.{needs}
-use Rattle.printing.proofs.print_row.Statement.{statement}
-use Rattle.printing.proofs.print_row.Tie as tie
+use Rattle.printrow.proofs.print_row.Statement.{statement}
+use Rattle.printrow.proofs.print_row.Tie as tie
 
 row-end-requires : tie.Need-row-end-requires
 row-end-requires c κs = search needs

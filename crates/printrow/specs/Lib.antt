@@ -1,0 +1,2 @@
+pub mod RowPrints
+pub mod RowLaws
