@@ -19,6 +19,7 @@ use Rattle.entries.specs.declared.Entry.{Entry}
 use Rattle.rowfields.specs.declared.Values.{Values}
 use Rattle.rowfields.specs.Said.{isBarred, valuesSaid}
 use Rattle.entries.specs.Entries.{entryOf}
+use Rattle.rowfields.specs.SaidLaws.{rest-right}
 
 abbrev pub refusedEntry : ℕ → Entry
 refusedEntry q = record { refusal = q; event = 0; values = replicate width 0 }
@@ -43,10 +44,6 @@ count-wrong row m n false q c = rw (ne-eqb (length (drop 1 (fields row))) n othe
   where
     other : length (drop 1 (fields row)) ≡ n → ⊥
     other e = let k : length (fields row) - 1 ≡ n = rw length-drop at e in let o = fields-some row in c (omega (arith, k))
-
--- the fields after the first are as many as the parameters
-rest-right : (row : List ℕ) (n : ℕ) → length (fields row) ≡ n + 1 → length (drop 1 (fields row)) ≡ n
-rest-right row n e = rw length-drop (omega arith)
 
 module _ (d : Declared) (row : List ℕ) (n : ℕ) (p : length (d .parameters) ≡ n) where
   pub entry-long : (r : Entry) → r ≡ refusedEntry 18 → rowBytes < length row → r ≡ entryOf (rowEvent d row)

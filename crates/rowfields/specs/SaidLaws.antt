@@ -4,7 +4,7 @@ use Prim.Native.Nat.{ℕ, _+_, _-_, _≤_, _<_}
 use mathlib.Core.Path.{_≡_, sym, ap, _∙_}
 use mathlib.Core.Bool.{true, false}
 use mathlib.Core.List.{List, []}
-use lib.ListN.{length, getD, take, drop, set, replicate}
+use lib.ListN.{length-drop, length, getD, take, drop, set, replicate}
 use lib.Seq.{getD-drop}
 use native.Mathlib.Omega.{arith}
 use Rattle.document.specs.Limits.{width}
@@ -16,6 +16,10 @@ use Rattle.rowfields.specs.declared.Value.{Value}
 use Rattle.rowfields.specs.declared.Values.{Values}
 use Rattle.rowfields.specs.Said.{valuesSaid}
 use Rattle.rowfields.specs.ValuesLaws.{value-good, value-none, value-bad, Takes, takes-begin, takes-bad, takes-more, takes-all, takes-fine}
+
+-- the fields after the first are as many as the parameters
+pub rest-right : (row : List ℕ) (n : ℕ) → length (fields row) ≡ n + 1 → length (drop 1 (fields row)) ≡ n
+rest-right row n e = rw length-drop (omega arith)
 
 -- What one field says, as the code holds it.
 pub said-good : (f : List ℕ) (v : ℕ) → v ≡ valueOf f → (v ≡ 0 → ⊥)
