@@ -2,6 +2,7 @@
 // Interior: the calls of `log` and `printing` judge the declarations once, and `turns` reads each row with it.
 ghost use mathlib.Core.Path.{_≡_};
 ghost use Prim.Native.Nat.{_≤_};
+ghost use lib.ListN.{replicate};
 ghost use Rattle.document.specs.Limits.{width, mostEvents};
 ghost use Rattle.document.specs.Log.{rowEvent};
 ghost use Rattle.places.specs.NamesAt.{Inside};
@@ -27,7 +28,7 @@ fn wide(x: u8) -> u64
 }
 
 fn refused(refusal: u8) -> Entry
-    ensures { λ r. ⌜ r ≡ record { refusal = refusal; event = 0; values = lib.ListN.replicate width 0 } ⌝ }
+    ensures { λ r. ⌜ r ≡ record { refusal = refusal; event = 0; values = replicate width 0 } ⌝ }
 {
     Entry {
         refusal,
