@@ -1,5 +1,5 @@
 // The class of a byte, read from one table of 256 classes (document 01, "The declarations").
-// Whatever asks for a byte's class goes through it: names and tokens. (The crate `rows` tells the digits of a value by range.)
+// Whatever asks for a byte's class goes through it: names and tokens. (The crate `values` tells the digits of a value by range.)
 ghost use mathlib.Core.Path.{_≡_};
 ghost use Rattle.document.specs.Classes.{classOf, isLetter, isBlank, isNameByte};
 

@@ -1,4 +1,4 @@
-// Clauses of the session check that one table answers by itself (document 01, "Numbers of refusal", 12). Above `combos`.
+// Clauses of the session check that one table answers by itself (document 01, "Numbers of refusal", 12). Above `combos` and `bound`.
 ghost use mathlib.Core.Path.{_≡_};
 ghost use Prim.Native.Nat.{_*_, _≤_};
 ghost use lib.ListN.{length};

@@ -1,5 +1,5 @@
 // Bytes and whole numbers in decimal, written into lent bytes at a place; the place after them is given back.
-// Interior: the caller sees to the room. It leans on `rows`.
+// Interior: the caller sees to the room.
 ghost use mathlib.Core.Path.{_≡_};
 ghost use mathlib.Core.List.{[], _∷_};
 ghost use Prim.Native.Nat.{_+_, _≤_, _<_};

@@ -1,5 +1,5 @@
 // Declarations: what they say or are refused for (1 to 5), the header of a log (22), and names given back as parts of the two
-// texts (document 01, "The declarations", "Log rows and the run"). All of it is the face; it leans on `readings`.
+// texts (document 01, "The declarations", "Log rows and the run"). All of it is the face; it leans on `declaring`.
 //
 //     declarations(b"event,bay\r\nfeed,1\r\n") has 1 parameter and 1 event, whose set is 1; event_name gives its part `feed`.
 ghost use mathlib.Core.Path.{_≡_};

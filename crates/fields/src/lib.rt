@@ -1,5 +1,5 @@
 // Fields of a row (document 01, "The declarations", "Log rows and the run"): where they stand, and whether two parts hold the
-// same bytes. `entries` counts a log row's commas in its pass for barred bytes. The face: `field`.
+// same bytes. `rowfields` counts a log row's commas in its pass for barred bytes. The face: `field`.
 //
 //     field(b"feed,1,7", 2) is the part `7` of the row; field(b"feed,1,7", 3) is the empty part at its start.
 ghost use mathlib.Core.Path.{_≡_};

@@ -1,5 +1,5 @@
 // What row and run judge before they take a row (document 01, "Numbers of refusal"): the declarations (1 to 5), the table (11),
-// whether the two agree (25), the session (12). Interior: once per call, whatever the number of rows. Above `readings`, `known`
+// whether the two agree (25), the session (12). Interior: once per call, whatever the number of rows. Above `declaring`, `known`
 // and `judge`.
 ghost use mathlib.Core.Path.{_≡_};
 ghost use Prim.Native.Nat.{_≤_};

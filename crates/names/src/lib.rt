@@ -1,5 +1,5 @@
 // Names and marks (document 01, "The declarations"): where name bytes end, what makes a name or a mark, and the same of all
-// fields of a declarations row that is split. It leans on `rows` and `classes`.
+// fields of a declarations row that is split. It leans on `fields` and `classes`.
 ghost use mathlib.Core.Path.{_≡_};
 ghost use mathlib.Core.Bool.{cond};
 ghost use mathlib.Core.List.{[], _∷_};

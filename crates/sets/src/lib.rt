@@ -1,7 +1,7 @@
 // Position sets of a pattern (document 01, "The table"): a set of numbers 0 to 31 is a number whose bit k says whether it
 // holds k. What a part of a pattern carries while it is read: whether the empty word is one of its words, the numbers at which
 // a word can begin and end, those that can come next after each number, and those that name each event.
-// Interior: the readers of the crate `pattern` build a pattern's shape with it, and `states` goes through its sets.
+// Interior: the readers of the crate `pattern` build a pattern's shape with it, and `growing` goes through its sets.
 ghost use mathlib.Core.Path.{_≡_};
 ghost use mathlib.Core.Bool.{cond, _||_, _&&_};
 ghost use Prim.Native.Nat.{suc, _≤_, _<_};

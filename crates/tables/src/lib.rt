@@ -1,4 +1,4 @@
-// Rows in order in a lent table (document 01, "One event"): a row put in among them. Above `combos`.
+// Rows in order in a lent table (document 01, "One event"): a row put in among them. Above `ordered`.
 // Interior: kept rows and reports are put in with it.
 ghost use Rattle.tables.specs.Tables.{Enterable, Entered};
 use limits::Combination;

@@ -1,6 +1,6 @@
 // From the declarations and a pattern text to the property table, or the refusal (document 01, "The pattern text" and "The
 // table"). Refusals come in the document's order: the declarations' 1 to 5, the pattern's 1, then 6 to 9 by offset, then 10.
-// It leans on `declared`, `pattern` and `states`. The face: `translate`.
+// It leans on `declaring`, `asking` and `states`. The face: `translate`.
 //
 //     With the events mix, feed and drain declared, the pattern `ere : mix feed+ drain @match` gives a table of 5 states;
 //     `ere : mix feed+ (drain @match` is refused 6 at offset 23, the place of `@match`.
