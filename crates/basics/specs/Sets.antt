@@ -102,6 +102,9 @@ pub below-pow : (n : ℕ) → n < 2 ^ n
 below-pow zero = omega arith
 below-pow (suc n) = omega (arith, two-pow-succ n, below-pow n)
 
+pub holds-single : (a b : ℕ) → ((k : ℕ) → holds a k ≡ holds b k) → a ≡ b
+holds-single a b h = let p = below-pow (a + b) in same-bits (a + b) a b (omega arith) (omega arith) (λ k m. h k)
+
 -- a set that holds nothing is 0
 pub holds-none : (a : ℕ) → ((k : ℕ) → holds a k ≡ false) → a ≡ 0
 holds-none a h = same-bits a a 0 (below-pow a) (pow-pos a) (λ k m. h k ∙ sym (holds-zero k))

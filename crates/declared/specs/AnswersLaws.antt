@@ -4,7 +4,6 @@ use Prim.Native.Nat.{ℕ, _+_, _-_, _≤_, _<_}
 use mathlib.Core.Path.{_≡_, sym, ap, _∙_}
 use mathlib.Core.Bool.{Bool, true, false, not}
 use mathlib.Core.List.{List, []}
-use denote.Ref.{RefT}
 use lib.ListN.{length, getD, take, drop, replicate, List·getD-eq-default}
 use native.Mathlib.Omega.{arith}
 use borrow.Author.Tests.{not-true, not-false, lt-ltb, le-ltb}
@@ -14,7 +13,8 @@ use Rattle.document.specs.Refusals.{headerDiffers, number, refusalOf}
 use Rattle.document.specs.Rows.{firstRow}
 use Rattle.document.specs.Declarations.{declarations, header, eventNameOf, eventName}
 use Rattle.rows.specs.TextLaws.{row-part}
-use Rattle.fields.specs.Places.{PartAt}
+use Rattle.fields.specs.Places.{Tells}
+use Rattle.fields.specs.PlacesLaws.{tells}
 use Rattle.readings.specs.declared.Reading.{Reading}
 use Rattle.declared.specs.declared.Declared.{Declared as Judged}
 use Rattle.readings.specs.Readings.{padded, Reads}
@@ -64,13 +64,13 @@ header-same text row t end b r n e q v =
     let d : b ≡ equal row (firstRow text) = rw (row-part text 0 end e) at q in
     rw (w .is, sym d ∙ not-false b v)
 
--- What `event_name` answers.
-name-refused : (text : List ℕ) (t : Reading) (event : ℕ) → Reads text t → (t .refusal ≡ 0 → ⊥) → take (0 - 0) (drop 0 text) ≡ eventName text event
+-- What `event_place` answers.
+name-refused : (text : List ℕ) (t : Reading) (event : ℕ) → Reads text t → (t .refusal ≡ 0 → ⊥) → take 0 (drop 0 text) ≡ eventName text event
 unfolding eventName eventNameOf
 name-refused text t event r n = let w = reads-refused text t r n in rw (w .is)
 
 name-past : (text : List ℕ) (t : Reading) (event : ℕ) → Reads text t → t .refusal ≡ 0 → t .events ≤ event
-    → take (0 - 0) (drop 0 text) ≡ eventName text event
+    → take 0 (drop 0 text) ≡ eventName text event
 unfolding eventName eventNameOf
 name-past text t event r n h =
     let w = reads-taken text t r n in
@@ -78,12 +78,11 @@ name-past text t event r n h =
     rw (w .is, List·getD-eq-default (w .said .events) [] k)
 
 name-there : (text : List ℕ) (t : Reading) (event : ℕ) → Reads text t → t .refusal ≡ 0 → event < t .events
-    → take (getD (t .starts) event 0 + getD (t .sizes) event 0 - getD (t .starts) event 0) (drop (getD (t .starts) event 0) text) ≡ eventName text event
+    → take (getD (t .sizes) event 0) (drop (getD (t .starts) event 0) text) ≡ eventName text event
 unfolding eventName eventNameOf
 name-there text t event r n h =
     let w = reads-taken text t r n in
-    let e : getD (t .starts) event 0 + getD (t .sizes) event 0 - getD (t .starts) event 0 ≡ getD (t .sizes) event 0 = omega arith in
-    rw (e, w .is, ← (w .stands .names)) (sym (names-at text (t .events) (t .starts) (t .sizes) event h))
+    rw (w .is, ← (w .stands .names)) (sym (names-at text (t .events) (t .starts) (t .sizes) event h))
 
 -- and where it lies
 start-refused : (text : List ℕ) (t : Reading) (event : ℕ) → Reads text t → (t .refusal ≡ 0 → ⊥) → 0 ≡ eventStart text event
@@ -105,27 +104,22 @@ start-there text t event r n h =
     let k : event < length (w .said .events) = let e = w .stands .events in omega arith in
     rw (w .is, lt-ltb event (length (w .said .events)) k) (r .places .begin event h)
 
-module _ (lent x : RefT (List ℕ)) (t : Reading) (event : ℕ) (r : Reads (lent .now) t) where
-  pub event-refused : (t .refusal ≡ 0 → ⊥) → x .now ≡ take (0 - 0) (drop 0 (lent .now)) → x .ptr ≡ (lent .ptr .0, 0 + lent .ptr .1)
-      → PartAt lent (eventStart (lent .now) event) (eventName (lent .now) event) x
-  event-refused n b l =
-      record { holds = b ∙ name-refused (lent .now) t event r n; lies = rw (← start-refused (lent .now) t event r n) l }
-
-  pub event-past : t .refusal ≡ 0 → t .events ≤ event → x .now ≡ take (0 - 0) (drop 0 (lent .now)) → x .ptr ≡ (lent .ptr .0, 0 + lent .ptr .1)
-      → PartAt lent (eventStart (lent .now) event) (eventName (lent .now) event) x
-  event-past n h b l =
-      record { holds = b ∙ name-past (lent .now) t event r n h; lies = rw (← start-past (lent .now) t event r n h) l }
-
-  pub event-there : t .refusal ≡ 0 → event < t .events
-      → x .now ≡ take (getD (t .starts) event 0 + getD (t .sizes) event 0 - getD (t .starts) event 0) (drop (getD (t .starts) event 0) (lent .now))
-      → x .ptr ≡ (lent .ptr .0, getD (t .starts) event 0 + lent .ptr .1)
-      → PartAt lent (eventStart (lent .now) event) (eventName (lent .now) event) x
-  event-there n h b l =
-      record { holds = b ∙ name-there (lent .now) t event r n h; lies = rw (← start-there (lent .now) t event r n h) l }
-
 pub event-inside : (text : List ℕ) (t : Reading) (event : ℕ) → Reads text t → t .refusal ≡ 0 → event < t .events
     → (event < mostEvents) × (getD (t .starts) event 0 + getD (t .sizes) event 0 ≤ length text)
 event-inside text t event r n h =
     let w = reads-taken text t r n in
     let f = w .stands .fewEvents in
     (omega arith, w .stands .inside .within event)
+
+module _ (text : List ℕ) (t : Reading) (event : ℕ) (r : Reads text t) where
+  pub event-refused : (t .refusal ≡ 0 → ⊥) → Tells text (eventStart text event) (eventName text event) (record { start = 0; size = 0 })
+  event-refused n = rw (← start-refused text t event r n) (tells text (eventName text event) 0 0 (omega arith) (name-refused text t event r n))
+
+  pub event-past : t .refusal ≡ 0 → t .events ≤ event → Tells text (eventStart text event) (eventName text event) (record { start = 0; size = 0 })
+  event-past n h = rw (← start-past text t event r n h) (tells text (eventName text event) 0 0 (omega arith) (name-past text t event r n h))
+
+  pub event-there : t .refusal ≡ 0 → event < t .events
+      → Tells text (eventStart text event) (eventName text event) (record { start = getD (t .starts) event 0; size = getD (t .sizes) event 0 })
+  event-there n h =
+      rw (← start-there text t event r n h)
+      (tells text (eventName text event) (getD (t .starts) event 0) (getD (t .sizes) event 0) (event-inside text t event r n h .1) (name-there text t event r n h))

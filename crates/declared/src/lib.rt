@@ -6,12 +6,14 @@ ghost use mathlib.Core.Path.{_≡_};
 ghost use Prim.Native.Nat.{_+_};
 ghost use Rattle.document.specs.Refusals.{refusalOf};
 ghost use Rattle.document.specs.Declarations.{declarations, header, eventName, nameAt};
-ghost use Rattle.fields.specs.Places.{PartAt, placeFrom};
+ghost use Rattle.fields.specs.Places.{PartAt, Tells, placeFrom};
 ghost use Rattle.declared.specs.Answers.{declaredOf, eventStart};
+use fields::Part;
 use limits::EventSets;
 use limits::MOST_EVENTS;
 
 // What declarations say: a refusal's number and nothing else, or the counts, and for each event the set of its parameters.
+#[repr(C)]
 pub struct Declared {
     pub refusal: u8,
     pub parameters: usize,
@@ -56,32 +58,53 @@ pub fn header(declarations: &[u8], row: &[u8]) -> u8
     refusals::TAKEN
 }
 
+// Where the name of an event lies in the declarations, by its number.
+pub fn event_place(declarations: &[u8], event: usize) -> Part
+    ensures { λ r. ⌜ Tells (now (declarations .entry)) (eventStart (now (declarations .entry)) event) (eventName (now (declarations .entry)) event) r ⌝ }
+{
+    let t = declaring::read(declarations);
+    if t.refusal != refusals::TAKEN {
+        return Part { start: 0, size: 0 };
+    }
+    if t.events <= event {
+        return Part { start: 0, size: 0 };
+    }
+    let start = t.starts[event];
+    let size = t.sizes[event];
+    Part { start, size }
+}
+
 // The name of an event by its number, as a part of the declarations; where there is none, the empty part at their start.
 pub fn event_name<'a, 'b>(declarations: &'a [u8], pattern: &'b [u8], event: usize) -> &'a [u8]
     ensures { λ r. ⌜ PartAt (declarations .entry) (eventStart (now (declarations .entry)) event) (eventName (now (declarations .entry)) event) r ⌝ }
 {
-    let t = declaring::read(declarations);
-    if t.refusal != refusals::TAKEN {
-        return &declarations[0..0];
-    }
-    if t.events <= event {
-        return &declarations[0..0];
-    }
-    let start = t.starts[event];
-    let end = start + t.sizes[event];
+    let part = event_place(declarations, event);
+    let start = part.start;
+    let end = start + part.size;
     &declarations[start..end]
+}
+
+// Where the name at an offset of a pattern text lies in it.
+pub fn pattern_place(pattern: &[u8], at: usize) -> Part
+    ensures { λ r. ⌜ Tells (now (pattern .entry)) (placeFrom at (nameAt (now (pattern .entry)) at)) (nameAt (now (pattern .entry)) at) r ⌝ }
+{
+    if pattern.len() <= at {
+        return Part { start: 0, size: 0 };
+    }
+    if !classes::is_letter(pattern[at]) {
+        return Part { start: 0, size: 0 };
+    }
+    let end = names::name_end(pattern, at);
+    let size = end - at;
+    Part { start: at, size }
 }
 
 // The name at an offset of the pattern text, as a part of it; where there is none, the empty part at its start.
 pub fn pattern_name<'a, 'b>(declarations: &'a [u8], pattern: &'b [u8], at: usize) -> &'b [u8]
     ensures { λ r. ⌜ PartAt (pattern .entry) (placeFrom at (nameAt (now (pattern .entry)) at)) (nameAt (now (pattern .entry)) at) r ⌝ }
 {
-    if pattern.len() <= at {
-        return &pattern[0..0];
-    }
-    if !classes::is_letter(pattern[at]) {
-        return &pattern[0..0];
-    }
-    let end = names::name_end(pattern, at);
-    &pattern[at..end]
+    let part = pattern_place(pattern, at);
+    let start = part.start;
+    let end = start + part.size;
+    &pattern[start..end]
 }

@@ -1,5 +1,6 @@
 pub mod Split
 pub mod Places
+pub mod PlacesLaws
 pub mod SplitLaws
 pub mod FieldsLaws
 pub mod FieldsInTurn

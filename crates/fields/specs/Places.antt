@@ -1,14 +1,15 @@
 -- Document 01, "Asking for a field gives back that part of the caller's row": a part that is given back, by its bytes and by
 -- where it lies in what was lent. A reference's place is a block and an offset in it.
 -- Assumes nothing.
-use Prim.Native.Nat.{ℕ, _+_}
+use Prim.Native.Nat.{ℕ, _+_, _≤_}
 use mathlib.Core.Path.{_≡_}
 use mathlib.Core.Bool.{cond}
 use mathlib.Core.List.{List}
-use lib.ListN.{length, getD}
+use lib.ListN.{length, getD, take, drop}
 use lib.Dec.{eqb}
 use denote.Ref.{RefT}
 use Rattle.document.specs.Rows.{Part, parts}
+use Rattle.fields.specs.declared.Part.{Part as Told}
 
 -- r holds these bytes, and lies at that place of what was lent
 pub record PartAt (lent : RefT (List ℕ)) (start : ℕ) (bytes : List ℕ) (r : RefT (List ℕ)) : Type 0 where
@@ -18,6 +19,13 @@ pub record PartAt (lent : RefT (List ℕ)) (start : ℕ) (bytes : List ℕ) (r :
 -- the same of the place alone
 abbrev pub Lies : RefT (List ℕ) → ℕ → RefT (List ℕ) → Type 0
 Lies lent start r = r .ptr ≡ (lent .ptr .0, start + lent .ptr .1)
+
+-- the same told by numbers, as a host in C is told: where the part starts and how long it is; the bytes there are these
+pub record Tells (text : List ℕ) (start : ℕ) (bytes : List ℕ) (r : Told) : Type 0 where
+  pub starts : r .start ≡ start
+  pub sizes : r .size ≡ length bytes
+  pub holds : take (r .size) (drop (r .start) text) ≡ bytes
+  pub inside : r .start + r .size ≤ length text
 
 -- where a field is in its row; "where there is no such field .. the empty part at the start is given"
 abbrev pub noPart : Part

@@ -6,7 +6,6 @@ use mathlib.Core.Logic.{_⊎_, inl, inr}
 use mathlib.Core.Bool.{true, false}
 use mathlib.Core.List.{List, [], _∷_}
 use lib.ListN.{length, getD, take, drop, set, length-drop, length-set, List·getD-map}
-use denote.Ref.{RefT}
 use lib.Seq.{drop-drop, getD-set-same, getD-set-other}
 use lib.Dec.{eqb, leb}
 use native.Mathlib.Omega.{arith}
@@ -18,7 +17,8 @@ use Rattle.basics.specs.Lists.{zero-at}
 use Rattle.fields.specs.declared.Fields.{Fields}
 use Rattle.basics.specs.Left.{drop-here, drop-end}
 use Rattle.fields.specs.Split.{upToComma, mostFields, added, collected, noFields, Split}
-use Rattle.fields.specs.Places.{PartAt, noPart, fieldPart}
+use Rattle.fields.specs.Places.{Tells, noPart, fieldPart}
+use Rattle.fields.specs.PlacesLaws.{tells}
 
 -- The bytes before the first comma: at a comma, at another byte, at the end.
 pub comma-here : (s : List ℕ) (i : ℕ) → i < length s → getD s i 0 ≡ comma → upToComma (drop i s) ≡ 0
@@ -150,13 +150,12 @@ walk-there : (row : List ℕ) (number start end left : ℕ) → Walk row number 
     → fieldPart row number ≡ record { start = start; size = upToComma (drop start row) }
 walk-there row number start end left w h = let z : left ≡ 0 = omega arith in sym (rw (z, field-there row start) at (w .rest))
 
-pub walk-none : (lent r : RefT (List ℕ)) (number start end left : ℕ) → Walk (lent .now) number start end left → 0 < left → length (lent .now) ≤ end
-    → r .now ≡ take (0 - 0) (drop 0 (lent .now)) → r .ptr ≡ (lent .ptr .0, 0 + lent .ptr .1)
-    → PartAt lent (fieldPart (lent .now) number .start) (field (lent .now) number) r
+pub walk-none : (row : List ℕ) (number start end left : ℕ) → Walk row number start end left → 0 < left → length row ≤ end
+    → Tells row (fieldPart row number .start) (field row number) (record { start = 0; size = 0 })
 unfolding partOf
-walk-none lent r number start end left w p h b l =
-    let z = walk-over (lent .now) number start end left w p h in
-    record { holds = b ∙ sym (field-part (lent .now) number ∙ ap (partOf (lent .now)) z); lies = rw z l }
+walk-none row number start end left w p h =
+    let z = walk-over row number start end left w p h in
+    rw z (tells row (field row number) 0 0 (omega arith) (sym (field-part row number ∙ ap (partOf row) z)))
 
 pub walk-field : (row : List ℕ) (number start end left : ℕ) → Walk row number start end left → left ≤ 0 → take (end - start) (drop start row) ≡ field row number
 unfolding partOf
@@ -165,14 +164,14 @@ walk-field row number start end left w h =
     let k : end - start ≡ upToComma (drop start row) = let e = w .ends in omega arith in
     sym (field-part row number ∙ ap (partOf row) z ∙ rw k)
 
-pub walk-ends : (lent r : RefT (List ℕ)) (number start end left : ℕ) → Walk (lent .now) number start end left → left ≤ 0
-    → r .now ≡ take (end - start) (drop start (lent .now)) → r .ptr ≡ (lent .ptr .0, start + lent .ptr .1)
-    → PartAt lent (fieldPart (lent .now) number .start) (field (lent .now) number) r
-walk-ends lent r number start end left w h b l =
-    record { holds = b ∙ walk-field (lent .now) number start end left w h; lies = rw (walk-there (lent .now) number start end left w h) l }
-
 pub walk-inside : (row : List ℕ) (number start end left : ℕ) → Walk row number start end left → (start ≤ end) × (end ≤ length row)
 walk-inside row number start end left w = end-within row start end (w .ends) (w .place)
+
+pub walk-ends : (row : List ℕ) (number start end left : ℕ) → Walk row number start end left → left ≤ 0
+    → Tells row (fieldPart row number .start) (field row number) (record { start = start; size = end - start })
+walk-ends row number start end left w h =
+    let i = walk-inside row number start end left w in
+    rw (walk-there row number start end left w h) (tells row (field row number) start (end - start) (omega arith) (walk-field row number start end left w h))
 
 -- The turns of the loop that collects all fields: those after the field from `start` to `end` are still to be added.
 pub record Collects (row : List ℕ) (start end : ℕ) (f : Fields) : Type 0 where

@@ -8,7 +8,7 @@ ghost use lib.ListN.{drop};
 ghost use Rattle.document.specs.Lists.{equal};
 ghost use Rattle.document.specs.Rows.{field};
 ghost use Rattle.fields.specs.Split.{upToComma, mostFields, Split, added};
-ghost use Rattle.fields.specs.Places.{PartAt, fieldPart};
+ghost use Rattle.fields.specs.Places.{PartAt, Tells, fieldPart};
 use limits::MOST_FIELDS;
 
 const COMMA: u8 = 44;
@@ -44,21 +44,39 @@ pub fn field_end(row: &[u8], start: usize) -> usize
     i
 }
 
-// A field of a row, as that part of it; where there is none, the empty part at the start.
-pub fn field(row: &[u8], number: usize) -> &[u8]
-    ensures { λ r. ⌜ PartAt (row .entry) (fieldPart (now (row .entry)) number .start) (field (now (row .entry)) number) r ⌝ }
+// A part of a text, told by numbers: where it starts and how long it is.
+#[repr(C)]
+pub struct Part {
+    pub start: usize,
+    pub size: usize,
+}
+
+// Where a field of a row lies; where there is none, the empty part at the start.
+pub fn field_place(row: &[u8], number: usize) -> Part
+    ensures { λ r. ⌜ Tells (now (row .entry)) (fieldPart (now (row .entry)) number .start) (field (now (row .entry)) number) r ⌝ }
 {
     let mut start: usize = 0;
     let mut end = field_end(row, start);
     let mut left = number;
     while 0 < left {
         if row.len() <= end {
-            return &row[0..0];
+            return Part { start: 0, size: 0 };
         }
         start = end + 1;
         end = field_end(row, start);
         left -= 1;
     }
+    let size = end - start;
+    Part { start, size }
+}
+
+// A field of a row, as that part of it; where there is none, the empty part at the start.
+pub fn field(row: &[u8], number: usize) -> &[u8]
+    ensures { λ r. ⌜ PartAt (row .entry) (fieldPart (now (row .entry)) number .start) (field (now (row .entry)) number) r ⌝ }
+{
+    let part = field_place(row, number);
+    let start = part.start;
+    let end = start + part.size;
     &row[start..end]
 }
 

@@ -16,6 +16,7 @@ use limits::WIDTH;
 use property::Property;
 
 // What lookup answers: the number of refusal, or 0; whether the combination's join is kept; and its state and verdict.
+#[repr(C)]
 pub struct Looked {
     pub refusal: u8,
     pub held: bool,

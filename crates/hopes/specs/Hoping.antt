@@ -2,12 +2,14 @@
 -- Assumes nothing.
 use Prim.Native.Nat.{ℕ}
 use mathlib.Core.Path.{_≡_}
-use mathlib.Core.Bool.{_&&_}
+use mathlib.Core.Bool.{cond, _&&_}
 use mathlib.Core.List.{List}
 use lib.ListN.{getD}
 use lib.Dec.{ltb}
+use Rattle.document.specs.Refusals.{badProperty, number}
 use Rattle.document.specs.Positions.{holds}
 use Rattle.document.specs.Property as document
+use Rattle.hopes.specs.declared.Checked.{Checked}
 
 -- the bits of r are those of the first n states whose verdict is asked for; of all states
 pub record Asking (asked : ℕ) (verdicts : List ℕ) (n r : ℕ) : Type 0 where
@@ -23,3 +25,8 @@ pub record Leading (p : document.Property) (marked allowed r : ℕ) : Type 0 whe
 -- the bits of r are the hopeful states
 pub record Hopes (p : document.Property) (r : ℕ) : Type 0 where
   pub says : (s : ℕ) → holds r s ≡ document.hopeful p s
+
+-- what the check of a table says: refused 11 if it is not within its ranges; else the bits are its hopeful states
+pub record Checks (p : document.Property) (r : Checked) : Type 0 where
+  pub says : r .refusal ≡ cond (document.inRange p) 0 (number badProperty)
+  pub hopes : (s : ℕ) → holds (r .hopeful) s ≡ (document.inRange p && document.hopeful p s)

@@ -1,3 +1,4 @@
 pub mod Hoping
 pub mod Steps
 pub mod LeadsLaws
+pub mod ChecksLaws

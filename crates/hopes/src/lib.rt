@@ -1,4 +1,4 @@
-// The hopeful states of a property table (document 01, "The table"), as bits. Above `bits` and `property`.
+// The hopeful states of a property table (document 01, "The table"), as bits. Above `bits` and `property`. The face: `check`.
 //
 //     Of any table that is taken: `hopeful(p)` has bit s where one or more events lead from s to a verdict asked for.
 ghost use mathlib.Core.Path.{_≡_};
@@ -7,7 +7,7 @@ ghost use Prim.Native.Nat.{_≤_, _<_};
 ghost use Rattle.document.specs.Limits.{mostStates};
 ghost use Rattle.document.specs.Property.{inRange, asksFor};
 ghost use Rattle.property.specs.Meaning.{meaning};
-ghost use Rattle.hopes.specs.Hoping.{Leading, Hopes, Asks};
+ghost use Rattle.hopes.specs.Hoping.{Leading, Hopes, Asks, Checks};
 ghost use Rattle.property.specs.Meaning.{Within};
 ghost use Rattle.hopes.specs.Steps.{Ways, AllWays, Round, Reached};
 use limits::MOST_EVENTS;
@@ -127,4 +127,30 @@ pub fn hopeful(p: property::Property) -> u64
 {
     let marked = asked_states(p);
     leads(p, marked, EVERY_EVENT)
+}
+
+// The face --------------------------------------------------------------------------------------------------------------
+
+// What the check of a property table says: 11, or 0 and the hopeful states as bits.
+#[repr(C)]
+pub struct Checked {
+    pub refusal: u8,
+    pub hopeful: u64,
+}
+
+// Whether a property table is taken, and which of its states are hopeful; none where it is refused 11.
+pub fn check(p: property::Property) -> Checked
+    ensures { λ r. ⌜ Checks (meaning p) r ⌝ }
+{
+    if !property::in_range(p) {
+        return Checked {
+            refusal: refusals::BAD_PROPERTY,
+            hopeful: 0,
+        };
+    }
+    let hopeful = hopeful(p);
+    Checked {
+        refusal: refusals::TAKEN,
+        hopeful,
+    }
 }

@@ -6,7 +6,6 @@ use mathlib.Core.Path.{_≡_, refl, sym, ap, _∙_}
 use mathlib.Core.Logic.{inl, inr}
 use mathlib.Core.Bool.{Bool, true, false, not, _&&_}
 use mathlib.Core.List.{List, [], _∷_}
-use denote.Ref.{RefT}
 use lib.ListN.{length, getD, take, drop, length-drop}
 use lib.Dec.{eqb, leb, eqb·suc-suc, eqb·zero-suc}
 use native.Mathlib.Omega.{arith}
@@ -18,7 +17,8 @@ use Rattle.document.specs.Declarations.{isName, isMark, nameRun, nameAt}
 use Rattle.basics.specs.Tests.{decided}
 use Rattle.basics.specs.Lists.{run-within, run-part}
 use Rattle.basics.specs.Left.{drop-here, drop-end}
-use Rattle.fields.specs.Places.{PartAt, placeFrom}
+use Rattle.fields.specs.Places.{Tells, placeFrom}
+use Rattle.fields.specs.PlacesLaws.{tells}
 
 -- the longest part at the start whose members pass a test: at none, at one that passes, at one that does not
 run-stops : (p : ℕ → Bool) (s : List ℕ) (i : ℕ) → i < length s → p (getD s i 0) ≡ false → takeWhile p (drop i s) ≡ []
@@ -93,11 +93,11 @@ name-rest f end d h l e n q =
     whole false = refl
 
 -- The name at an offset of a text: none past the end, none where no letter is, else the run of name bytes.
-past-bytes : (s : List ℕ) (at : ℕ) → length s ≤ at → take (0 - 0) (drop 0 s) ≡ nameAt s at
+past-bytes : (s : List ℕ) (at : ℕ) → length s ≤ at → take 0 (drop 0 s) ≡ nameAt s at
 unfolding nameAt nameRun
 past-bytes s at h = rw (drop-end s at h)
 
-none-bytes : (s : List ℕ) (at : ℕ) (d : Bool) → at < length s → d ≡ isLetter (getD s at 0) → not d ≡ true → take (0 - 0) (drop 0 s) ≡ nameAt s at
+none-bytes : (s : List ℕ) (at : ℕ) (d : Bool) → at < length s → d ≡ isLetter (getD s at 0) → not d ≡ true → take 0 (drop 0 s) ≡ nameAt s at
 unfolding nameAt nameRun
 none-bytes s at d h e n = rw (drop-here s at h, sym e ∙ not-true d n)
 
@@ -116,30 +116,26 @@ name-some : (s : List ℕ) (at : ℕ) → at < length s → isLetter (getD s at 
 name-some s at h e =
     rw (name-run s at h e, run-goes-on isNameByte s at h (rw e)) (ne-eqb (suc (length (takeWhile isNameByte (drop (at + 1) s)))) 0 (λ z. absurd (omega arith)))
 
-module _ (lent x : RefT (List ℕ)) (at : ℕ) where
-  pub name-past : length (lent .now) ≤ at → x .now ≡ take (0 - 0) (drop 0 (lent .now)) → x .ptr ≡ (lent .ptr .0, 0 + lent .ptr .1)
-      → PartAt lent (placeFrom at (nameAt (lent .now) at)) (nameAt (lent .now) at) x
-  unfolding placeFrom
-  name-past h b l = let z = past-bytes (lent .now) at h in record { holds = b ∙ z; lies = rw (← z) l }
-
-  pub name-none : (d : Bool) → at < length (lent .now) → d ≡ isLetter (getD (lent .now) at 0) → not d ≡ true
-      → x .now ≡ take (0 - 0) (drop 0 (lent .now)) → x .ptr ≡ (lent .ptr .0, 0 + lent .ptr .1)
-      → PartAt lent (placeFrom at (nameAt (lent .now) at)) (nameAt (lent .now) at) x
-  unfolding placeFrom
-  name-none d h e n b l = let z = none-bytes (lent .now) at d h e n in record { holds = b ∙ z; lies = rw (← z) l }
-
-  pub name-there : (end : ℕ) (d : Bool) → at < length (lent .now) → d ≡ isLetter (getD (lent .now) at 0) → not d ≡ false
-      → end ≡ at + length (takeWhile isNameByte (drop at (lent .now)))
-      → x .now ≡ take (end - at) (drop at (lent .now)) → x .ptr ≡ (lent .ptr .0, at + lent .ptr .1)
-      → PartAt lent (placeFrom at (nameAt (lent .now) at)) (nameAt (lent .now) at) x
-  unfolding placeFrom
-  name-there end d h e n q b l = record {
-    holds = b ∙ there-bytes (lent .now) at end d h e n q;
-    lies = rw (name-some (lent .now) at h (sym e ∙ not-false d n)) l;
-  }
-
 pub name-inside : (s : List ℕ) (at end : ℕ) → at < length s → end ≡ at + length (takeWhile isNameByte (drop at s)) → (at ≤ end) × (end ≤ length s)
 name-inside s at end h e = let k = rw length-drop at (run-within isNameByte (drop at s)) in (omega arith, omega arith)
+
+module _ (s : List ℕ) (at : ℕ) where
+  pub name-past : length s ≤ at → Tells s (placeFrom at (nameAt s at)) (nameAt s at) (record { start = 0; size = 0 })
+  unfolding placeFrom
+  name-past h = let z = past-bytes s at h in rw (← z) (tells s (take 0 (drop 0 s)) 0 0 (omega arith) refl)
+
+  pub name-none : (d : Bool) → at < length s → d ≡ isLetter (getD s at 0) → not d ≡ true
+      → Tells s (placeFrom at (nameAt s at)) (nameAt s at) (record { start = 0; size = 0 })
+  unfolding placeFrom
+  name-none d h e n = let z = none-bytes s at d h e n in rw (← z) (tells s (take 0 (drop 0 s)) 0 0 (omega arith) refl)
+
+  pub name-there : (end : ℕ) (d : Bool) → at < length s → d ≡ isLetter (getD s at 0) → not d ≡ false
+      → end ≡ at + length (takeWhile isNameByte (drop at s))
+      → Tells s (placeFrom at (nameAt s at)) (nameAt s at) (record { start = at; size = end - at })
+  unfolding placeFrom
+  name-there end d h e n q =
+      let i = name-inside s at end h q in
+      rw (name-some s at h (sym e ∙ not-false d n)) (tells s (nameAt s at) at (end - at) (omega arith) (there-bytes s at end d h e n q))
 
 -- A mark is `0` or `1`.
 pub mark-zero : (f : List ℕ) (d : Bool) → d ≡ equal f (zeroByte ∷ []) → d ≡ true → true ≡ isMark f

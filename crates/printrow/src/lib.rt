@@ -14,6 +14,7 @@ use moves::Known;
 
 // What printing answers: the number of refusal, or 0; the offset and the number of the row that comes next; the rows of both
 // tables that count now; and the bytes of the text that are filled.
+#[repr(C)]
 pub struct Printed {
     pub refusal: u8,
     pub next: usize,

@@ -20,10 +20,14 @@ use Rattle.declared.proofs.declarations.Reads as declarations
 use Rattle.declared.proofs.header.Reads as header
 use Rattle.declared.proofs.event_name.Reads as event-name
 use Rattle.declared.proofs.pattern_name.Reads as pattern-name
+use Rattle.declared.proofs.event_place.Reads as event-place
+use Rattle.declared.proofs.pattern_place.Reads as pattern-place
 use Rattle.translate.specs.declared.Translated.{Translated}
 use Rattle.translate.proofs.translate.Reads as translate
 use Rattle.property.specs.declared.Property.{Property}
 use Rattle.property.proofs.in_range.Reads as in-range
+use Rattle.hopes.specs.declared.Checked.{Checked}
+use Rattle.hopes.proofs.check.Reads as check
 use Rattle.steps.specs.declared.Answered.{Answered}
 use Rattle.finding.specs.declared.Looked.{Looked}
 use Rattle.starting.proofs.start.Reads as start
@@ -33,7 +37,9 @@ use Rattle.turns.specs.declared.Ran.{Ran}
 use Rattle.log.proofs.row.Reads as row
 use Rattle.log.proofs.run.Reads as run
 use Rattle.fields.specs.Places.{Lies, placeFrom}
+use Rattle.fields.specs.declared.Part.{Part}
 use Rattle.fields.proofs.field.Reads as field
+use Rattle.fields.proofs.field_place.Reads as field-place
 use Rattle.reader.specs.declared.Reader.{Reader}
 use Rattle.reader.specs.declared.Row.{Row}
 use Rattle.reader.specs.declared.Place.{Place}
@@ -45,7 +51,7 @@ use Rattle.reader.proofs.place_at.Reads as place-at
 use Rattle.reader.proofs.part.Reads as part
 use Rattle.printrow.specs.declared.Printed.{Printed}
 use Rattle.printing.proofs.print.Reads as print
-use Rattle.single.specs.Leaves.{part-at-single, start-leaves-single, leaves-single, run-leaves-single, print-leaves-single}
+use Rattle.single.specs.Leaves.{part-at-single, tells-single, checks-single, start-leaves-single, leaves-single, run-leaves-single, print-leaves-single}
 
 -- bytes or numbers that the caller lends, and a part of them that is given back; `now` is what they hold, and `last seen seen′`
 -- are the lent numbers `seen` when they hold seen′ at last
@@ -88,6 +94,17 @@ module _ (κs : Lfts 0) (p : Property) where
 
   pub in-range-single : (r q : Bool) → InRangePromise r → InRangePromise q → r ≡ q
   in-range-single r q x y = x ∙ sym y
+
+-- hopes::check(p)
+module _ (κs : Lfts 0) (p : Property) where
+  abbrev pub CheckPromise : Checked → Type 0
+  CheckPromise r = check.Learnt κs (p, tt) r (p, tt)
+
+  pub check-takes : check.Asked κs (p, tt)
+  check-takes = tt
+
+  pub check-single : (r q : Checked) → CheckPromise r → CheckPromise q → r ≡ q
+  check-single r q x y = checks-single x y
 
 -- One event ------------------------------------------------------------------------------------------------------------
 
@@ -171,6 +188,17 @@ module _ (κs : Lfts 1) (bytes : Lent) (number : ℕ) where
   pub field-single : (r q : Lent) → FieldPromise r → FieldPromise q → (now r ≡ now q) × (r .ptr ≡ q .ptr)
   field-single r q x y = part-at-single x y
 
+-- fields::field_place(row, number): the same part told by numbers
+module _ (κs : Lfts 1) (bytes : Lent) (number : ℕ) where
+  abbrev pub FieldPlacePromise : Part → Type 0
+  FieldPlacePromise r = field-place.Learnt κs (bytes, (number, tt)) r (bytes, (number, tt))
+
+  pub field-place-takes : field-place.Asked κs (bytes, (number, tt))
+  field-place-takes = tt
+
+  pub field-place-single : (r q : Part) → FieldPlacePromise r → FieldPlacePromise q → r ≡ q
+  field-place-single r q x y = tells-single x y
+
 -- declared::event_name(declarations, pattern, event), declared::pattern_name(declarations, pattern, at): the same
 module _ (κs : Lfts 2) (declarations pattern : Lent) (number : ℕ) where
   abbrev pub EventNamePromise : Lent → Type 0
@@ -191,6 +219,26 @@ module _ (κs : Lfts 2) (declarations pattern : Lent) (number : ℕ) where
 
   pub pattern-name-single : (r q : Lent) → PatternNamePromise r → PatternNamePromise q → (now r ≡ now q) × (r .ptr ≡ q .ptr)
   pattern-name-single r q x y = part-at-single x y
+
+-- declared::event_place(declarations, event), declared::pattern_place(pattern, at): told by numbers
+module _ (κs : Lfts 1) (text : Lent) (number : ℕ) where
+  abbrev pub EventPlacePromise : Part → Type 0
+  EventPlacePromise r = event-place.Learnt κs (text, (number, tt)) r (text, (number, tt))
+
+  pub event-place-takes : event-place.Asked κs (text, (number, tt))
+  event-place-takes = tt
+
+  pub event-place-single : (r q : Part) → EventPlacePromise r → EventPlacePromise q → r ≡ q
+  event-place-single r q x y = tells-single x y
+
+  abbrev pub PatternPlacePromise : Part → Type 0
+  PatternPlacePromise r = pattern-place.Learnt κs (text, (number, tt)) r (text, (number, tt))
+
+  pub pattern-place-takes : pattern-place.Asked κs (text, (number, tt))
+  pattern-place-takes = tt
+
+  pub pattern-place-single : (r q : Part) → PatternPlacePromise r → PatternPlacePromise q → r ≡ q
+  pattern-place-single r q x y = tells-single x y
 
 -- The reader holds a reference, so the checker reads no `Learnt` off its two calls: that `..Promise` is their contract is shown
 -- by `..-promise`, in every model `w` of the checker's logic.

@@ -8,7 +8,12 @@ use denote.Ref.{RefT}
 use Rattle.document.specs.Refusals.{Answer}
 use Rattle.document.specs.Session.{Session, Happened}
 use Rattle.document.specs.Log as document
-use Rattle.fields.specs.Places.{PartAt}
+use Rattle.document.specs.Property.{Property}
+use Rattle.basics.specs.Sets.{holds-single}
+use Rattle.fields.specs.declared.Part.{Part}
+use Rattle.fields.specs.Places.{PartAt, Tells}
+use Rattle.hopes.specs.declared.Checked.{Checked}
+use Rattle.hopes.specs.Hoping.{Checks}
 use Rattle.steps.specs.declared.Answered.{Answered}
 use Rattle.starting.specs.Starts.{StartLeaves}
 use Rattle.steps.specs.Steps.{Leaves}
@@ -22,6 +27,16 @@ use Rattle.printing.specs.Prints.{PrintLeaves}
 pub part-at-single : {lent : RefT (List ℕ)} {start : ℕ} {bytes : List ℕ} {r q : RefT (List ℕ)}
     → PartAt lent start bytes r → PartAt lent start bytes q → (r .now ≡ q .now) × (r .ptr ≡ q .ptr)
 part-at-single x y = (x .holds ∙ sym (y .holds), x .lies ∙ sym (y .lies))
+
+-- the same part told by numbers
+pub tells-single : {text : List ℕ} {start : ℕ} {bytes : List ℕ} {r q : Part} → Tells text start bytes r → Tells text start bytes q → r ≡ q
+tells-single x y = λ i. record { start = (x .starts ∙ sym (y .starts)) i; size = (x .sizes ∙ sym (y .sizes)) i }
+
+-- what the check of a property table says
+pub checks-single : {p : Property} {r q : Checked} → Checks p r → Checks p q → r ≡ q
+checks-single {p} {r} {q} x y =
+    let h = holds-single (r .hopeful) (q .hopeful) (λ s. x .hopes s ∙ sym (y .hopes s)) in
+    λ i. record { refusal = (x .says ∙ sym (y .says)) i; hopeful = h i }
 
 pub start-leaves-single : {a : Answer Session} {seen kept : List ℕ} {r q : Answered} {seen′ seen″ kept′ kept″ : List ℕ}
     → StartLeaves a seen kept r seen′ kept′ → StartLeaves a seen kept q seen″ kept″

@@ -10,6 +10,7 @@ use limits::Verdicts;
 use moves::Known;
 
 // What a call answers: the number of refusal, or 0; the rows of both tables that count now; and the reports made.
+#[repr(C)]
 pub struct Answered {
     pub refusal: u8,
     pub seen: usize,

@@ -14,6 +14,7 @@ use limits::MOST_STATES;
 use limits::TRANSITIONS;
 
 // What is translated: the table; or a refusal's number, its offset for 6 to 9, and a table of zeros.
+#[repr(C)]
 pub struct Translated {
     pub refusal: u8,
     pub at: usize,

@@ -65,6 +65,7 @@ pub fn step_row<'a, 'b, 'c>(
 
 // What the run answers: the number of the refusal that stopped it, or 0; the rows taken and the next offset; the rows of both
 // tables that count now; and the reports made.
+#[repr(C)]
 pub struct Ran {
     pub refusal: u8,
     pub taken: usize,

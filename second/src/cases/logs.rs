@@ -143,7 +143,7 @@ fn rows() -> Vec<Request> {
         .extend(crate::cases::sessions::texts(format!("event,w,x,y,z\r\n{n32},1,1,1,1"), format!("ere:{n32}@match")));
     requests.extend([fill(8, 10, 10), start()]);
     requests.push(row(format!("{n32},4294967295,4294967295,4294967295,4294967295")));
-    requests.push(lines(u64::MAX));
+    requests.push(lines(u64::MAX - 1));
     requests
 }
 

@@ -42,7 +42,8 @@ fn row(maker: &mut Maker, declared: &Declared, values: usize) {
     let row = any_row(&mut maker.rng, declared, values);
     maker.send(call("row").bytes(row));
     if maker.rng.chance(60) {
-        let number = if maker.rng.chance(10) { maker.rng.odd_long() } else { maker.rng.below(50) as u64 };
+        let number =
+            if maker.rng.chance(10) { maker.rng.odd_long().min(u64::MAX - 1) } else { maker.rng.below(50) as u64 };
         maker.send(call("lines").number(number));
     }
 }
