@@ -13,8 +13,8 @@ use Rattle.document.specs.Refusals.{headerDiffers, number, refusalOf}
 use Rattle.document.specs.Rows.{firstRow}
 use Rattle.document.specs.Declarations.{declarations, header, eventNameOf, eventName}
 use Rattle.rows.specs.TextLaws.{row-part}
-use Rattle.fields.specs.Places.{Tells}
-use Rattle.fields.specs.PlacesLaws.{tells}
+use Rattle.fields.specs.Places.{ToldAt}
+use Rattle.fields.specs.PlacesLaws.{told-at}
 use Rattle.readings.specs.declared.Reading.{Reading}
 use Rattle.declared.specs.declared.Declared.{Declared as Judged}
 use Rattle.readings.specs.Readings.{padded, Reads}
@@ -112,14 +112,14 @@ event-inside text t event r n h =
     (omega arith, w .stands .inside .within event)
 
 module _ (text : List ℕ) (t : Reading) (event : ℕ) (r : Reads text t) where
-  pub event-refused : (t .refusal ≡ 0 → ⊥) → Tells text (eventStart text event) (eventName text event) (record { start = 0; size = 0 })
-  event-refused n = rw (← start-refused text t event r n) (tells text (eventName text event) 0 0 (omega arith) (name-refused text t event r n))
+  pub event-refused : (t .refusal ≡ 0 → ⊥) → ToldAt text (eventStart text event) (eventName text event) (record { start = 0; size = 0 })
+  event-refused n = rw (← start-refused text t event r n) (told-at text (eventName text event) 0 0 (omega arith) (name-refused text t event r n))
 
-  pub event-past : t .refusal ≡ 0 → t .events ≤ event → Tells text (eventStart text event) (eventName text event) (record { start = 0; size = 0 })
-  event-past n h = rw (← start-past text t event r n h) (tells text (eventName text event) 0 0 (omega arith) (name-past text t event r n h))
+  pub event-past : t .refusal ≡ 0 → t .events ≤ event → ToldAt text (eventStart text event) (eventName text event) (record { start = 0; size = 0 })
+  event-past n h = rw (← start-past text t event r n h) (told-at text (eventName text event) 0 0 (omega arith) (name-past text t event r n h))
 
   pub event-there : t .refusal ≡ 0 → event < t .events
-      → Tells text (eventStart text event) (eventName text event) (record { start = getD (t .starts) event 0; size = getD (t .sizes) event 0 })
+      → ToldAt text (eventStart text event) (eventName text event) (record { start = getD (t .starts) event 0; size = getD (t .sizes) event 0 })
   event-there n h =
       rw (← start-there text t event r n h)
-      (tells text (eventName text event) (getD (t .starts) event 0) (getD (t .sizes) event 0) (event-inside text t event r n h .1) (name-there text t event r n h))
+      (told-at text (eventName text event) (getD (t .starts) event 0) (getD (t .sizes) event 0) (event-inside text t event r n h .1) (name-there text t event r n h))

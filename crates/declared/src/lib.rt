@@ -6,7 +6,7 @@ ghost use mathlib.Core.Path.{_≡_};
 ghost use Prim.Native.Nat.{_+_};
 ghost use Rattle.document.specs.Refusals.{refusalOf};
 ghost use Rattle.document.specs.Declarations.{declarations, header, eventName, nameAt};
-ghost use Rattle.fields.specs.Places.{PartAt, Tells, placeFrom};
+ghost use Rattle.fields.specs.Places.{PartAt, ToldAt, placeFrom};
 ghost use Rattle.declared.specs.Answers.{declaredOf, eventStart};
 use fields::Part;
 use limits::EventSets;
@@ -60,7 +60,7 @@ pub fn header(declarations: &[u8], row: &[u8]) -> u8
 
 // Where the name of an event lies in the declarations, by its number.
 pub fn event_place(declarations: &[u8], event: usize) -> Part
-    ensures { λ r. ⌜ Tells (now (declarations .entry)) (eventStart (now (declarations .entry)) event) (eventName (now (declarations .entry)) event) r ⌝ }
+    ensures { λ r. ⌜ ToldAt (now (declarations .entry)) (eventStart (now (declarations .entry)) event) (eventName (now (declarations .entry)) event) r ⌝ }
 {
     let t = declaring::read(declarations);
     if t.refusal != refusals::TAKEN {
@@ -86,7 +86,7 @@ pub fn event_name<'a, 'b>(declarations: &'a [u8], pattern: &'b [u8], event: usiz
 
 // Where the name at an offset of a pattern text lies in it.
 pub fn pattern_place(pattern: &[u8], at: usize) -> Part
-    ensures { λ r. ⌜ Tells (now (pattern .entry)) (placeFrom at (nameAt (now (pattern .entry)) at)) (nameAt (now (pattern .entry)) at) r ⌝ }
+    ensures { λ r. ⌜ ToldAt (now (pattern .entry)) (placeFrom at (nameAt (now (pattern .entry)) at)) (nameAt (now (pattern .entry)) at) r ⌝ }
 {
     if pattern.len() <= at {
         return Part { start: 0, size: 0 };

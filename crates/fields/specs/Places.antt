@@ -21,7 +21,7 @@ abbrev pub Lies : RefT (List ℕ) → ℕ → RefT (List ℕ) → Type 0
 Lies lent start r = r .ptr ≡ (lent .ptr .0, start + lent .ptr .1)
 
 -- the same told by numbers, as a host in C is told: where the part starts and how long it is; the bytes there are these
-pub record Tells (text : List ℕ) (start : ℕ) (bytes : List ℕ) (r : Told) : Type 0 where
+pub record ToldAt (text : List ℕ) (start : ℕ) (bytes : List ℕ) (r : Told) : Type 0 where
   pub starts : r .start ≡ start
   pub sizes : r .size ≡ length bytes
   pub holds : take (r .size) (drop (r .start) text) ≡ bytes

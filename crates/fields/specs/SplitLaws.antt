@@ -17,8 +17,8 @@ use Rattle.basics.specs.Lists.{zero-at}
 use Rattle.fields.specs.declared.Fields.{Fields}
 use Rattle.basics.specs.Left.{drop-here, drop-end}
 use Rattle.fields.specs.Split.{upToComma, mostFields, added, collected, noFields, Split}
-use Rattle.fields.specs.Places.{Tells, noPart, fieldPart}
-use Rattle.fields.specs.PlacesLaws.{tells}
+use Rattle.fields.specs.Places.{ToldAt, noPart, fieldPart}
+use Rattle.fields.specs.PlacesLaws.{told-at}
 
 -- The bytes before the first comma: at a comma, at another byte, at the end.
 pub comma-here : (s : List ℕ) (i : ℕ) → i < length s → getD s i 0 ≡ comma → upToComma (drop i s) ≡ 0
@@ -151,11 +151,11 @@ walk-there : (row : List ℕ) (number start end left : ℕ) → Walk row number 
 walk-there row number start end left w h = let z : left ≡ 0 = omega arith in sym (rw (z, field-there row start) at (w .rest))
 
 pub walk-none : (row : List ℕ) (number start end left : ℕ) → Walk row number start end left → 0 < left → length row ≤ end
-    → Tells row (fieldPart row number .start) (field row number) (record { start = 0; size = 0 })
+    → ToldAt row (fieldPart row number .start) (field row number) (record { start = 0; size = 0 })
 unfolding partOf
 walk-none row number start end left w p h =
     let z = walk-over row number start end left w p h in
-    rw z (tells row (field row number) 0 0 (omega arith) (sym (field-part row number ∙ ap (partOf row) z)))
+    rw z (told-at row (field row number) 0 0 (omega arith) (sym (field-part row number ∙ ap (partOf row) z)))
 
 pub walk-field : (row : List ℕ) (number start end left : ℕ) → Walk row number start end left → left ≤ 0 → take (end - start) (drop start row) ≡ field row number
 unfolding partOf
@@ -168,10 +168,10 @@ pub walk-inside : (row : List ℕ) (number start end left : ℕ) → Walk row nu
 walk-inside row number start end left w = end-within row start end (w .ends) (w .place)
 
 pub walk-ends : (row : List ℕ) (number start end left : ℕ) → Walk row number start end left → left ≤ 0
-    → Tells row (fieldPart row number .start) (field row number) (record { start = start; size = end - start })
+    → ToldAt row (fieldPart row number .start) (field row number) (record { start = start; size = end - start })
 walk-ends row number start end left w h =
     let i = walk-inside row number start end left w in
-    rw (walk-there row number start end left w h) (tells row (field row number) start (end - start) (omega arith) (walk-field row number start end left w h))
+    rw (walk-there row number start end left w h) (told-at row (field row number) start (end - start) (omega arith) (walk-field row number start end left w h))
 
 -- The turns of the loop that collects all fields: those after the field from `start` to `end` are still to be added.
 pub record Collects (row : List ℕ) (start end : ℕ) (f : Fields) : Type 0 where

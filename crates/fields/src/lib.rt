@@ -8,7 +8,7 @@ ghost use lib.ListN.{drop};
 ghost use Rattle.document.specs.Lists.{equal};
 ghost use Rattle.document.specs.Rows.{field};
 ghost use Rattle.fields.specs.Split.{upToComma, mostFields, Split, added};
-ghost use Rattle.fields.specs.Places.{PartAt, Tells, fieldPart};
+ghost use Rattle.fields.specs.Places.{PartAt, ToldAt, fieldPart};
 use limits::MOST_FIELDS;
 
 const COMMA: u8 = 44;
@@ -53,7 +53,7 @@ pub struct Part {
 
 // Where a field of a row lies; where there is none, the empty part at the start.
 pub fn field_place(row: &[u8], number: usize) -> Part
-    ensures { λ r. ⌜ Tells (now (row .entry)) (fieldPart (now (row .entry)) number .start) (field (now (row .entry)) number) r ⌝ }
+    ensures { λ r. ⌜ ToldAt (now (row .entry)) (fieldPart (now (row .entry)) number .start) (field (now (row .entry)) number) r ⌝ }
 {
     let mut start: usize = 0;
     let mut end = field_end(row, start);

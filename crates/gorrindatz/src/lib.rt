@@ -11,7 +11,7 @@ ghost use Rattle.document.specs.Declarations.{declarations, header, eventName, 
 ghost use Rattle.document.specs.Translate.{translate};
 ghost use Rattle.document.specs.Session.{event, start, lookup};
 ghost use Rattle.document.specs.Log.{row, run};
-ghost use Rattle.fields.specs.Places.{Tells, fieldPart, placeFrom};
+ghost use Rattle.fields.specs.Places.{ToldAt, fieldPart, placeFrom};
 ghost use Rattle.declared.specs.Answers.{declaredOf, eventStart};
 ghost use Rattle.reader.specs.Handing.{placeAt};
 ghost use Rattle.translate.specs.Translations.{translatedOf};
@@ -101,21 +101,21 @@ pub extern "C" fn gorrindatz_header(declarations: &[u8], row: &[u8]) -> u8
 
 #[no_mangle]
 pub extern "C" fn gorrindatz_field(row: &[u8], number: usize) -> Part
-    ensures { λ r. ⌜ Tells (now (row .entry)) (fieldPart (now (row .entry)) number .start) (field (now (row .entry)) number) r ⌝ }
+    ensures { λ r. ⌜ ToldAt (now (row .entry)) (fieldPart (now (row .entry)) number .start) (field (now (row .entry)) number) r ⌝ }
 {
     fields::field_place(row, number)
 }
 
 #[no_mangle]
 pub extern "C" fn gorrindatz_event_name(declarations: &[u8], event: usize) -> Part
-    ensures { λ r. ⌜ Tells (now (declarations .entry)) (eventStart (now (declarations .entry)) event) (eventName (now (declarations .entry)) event) r ⌝ }
+    ensures { λ r. ⌜ ToldAt (now (declarations .entry)) (eventStart (now (declarations .entry)) event) (eventName (now (declarations .entry)) event) r ⌝ }
 {
     declared::event_place(declarations, event)
 }
 
 #[no_mangle]
 pub extern "C" fn gorrindatz_pattern_name(pattern: &[u8], at: usize) -> Part
-    ensures { λ r. ⌜ Tells (now (pattern .entry)) (placeFrom at (nameAt (now (pattern .entry)) at)) (nameAt (now (pattern .entry)) at) r ⌝ }
+    ensures { λ r. ⌜ ToldAt (now (pattern .entry)) (placeFrom at (nameAt (now (pattern .entry)) at)) (nameAt (now (pattern .entry)) at) r ⌝ }
 {
     declared::pattern_place(pattern, at)
 }

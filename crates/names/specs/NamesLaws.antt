@@ -17,8 +17,8 @@ use Rattle.document.specs.Declarations.{isName, isMark, nameRun, nameAt}
 use Rattle.basics.specs.Tests.{decided}
 use Rattle.basics.specs.Lists.{run-within, run-part}
 use Rattle.basics.specs.Left.{drop-here, drop-end}
-use Rattle.fields.specs.Places.{Tells, placeFrom}
-use Rattle.fields.specs.PlacesLaws.{tells}
+use Rattle.fields.specs.Places.{ToldAt, placeFrom}
+use Rattle.fields.specs.PlacesLaws.{told-at}
 
 -- the longest part at the start whose members pass a test: at none, at one that passes, at one that does not
 run-stops : (p : ℕ → Bool) (s : List ℕ) (i : ℕ) → i < length s → p (getD s i 0) ≡ false → takeWhile p (drop i s) ≡ []
@@ -120,22 +120,22 @@ pub name-inside : (s : List ℕ) (at end : ℕ) → at < length s → end ≡ at
 name-inside s at end h e = let k = rw length-drop at (run-within isNameByte (drop at s)) in (omega arith, omega arith)
 
 module _ (s : List ℕ) (at : ℕ) where
-  pub name-past : length s ≤ at → Tells s (placeFrom at (nameAt s at)) (nameAt s at) (record { start = 0; size = 0 })
+  pub name-past : length s ≤ at → ToldAt s (placeFrom at (nameAt s at)) (nameAt s at) (record { start = 0; size = 0 })
   unfolding placeFrom
-  name-past h = let z = past-bytes s at h in rw (← z) (tells s (take 0 (drop 0 s)) 0 0 (omega arith) refl)
+  name-past h = let z = past-bytes s at h in rw (← z) (told-at s (take 0 (drop 0 s)) 0 0 (omega arith) refl)
 
   pub name-none : (d : Bool) → at < length s → d ≡ isLetter (getD s at 0) → not d ≡ true
-      → Tells s (placeFrom at (nameAt s at)) (nameAt s at) (record { start = 0; size = 0 })
+      → ToldAt s (placeFrom at (nameAt s at)) (nameAt s at) (record { start = 0; size = 0 })
   unfolding placeFrom
-  name-none d h e n = let z = none-bytes s at d h e n in rw (← z) (tells s (take 0 (drop 0 s)) 0 0 (omega arith) refl)
+  name-none d h e n = let z = none-bytes s at d h e n in rw (← z) (told-at s (take 0 (drop 0 s)) 0 0 (omega arith) refl)
 
   pub name-there : (end : ℕ) (d : Bool) → at < length s → d ≡ isLetter (getD s at 0) → not d ≡ false
       → end ≡ at + length (takeWhile isNameByte (drop at s))
-      → Tells s (placeFrom at (nameAt s at)) (nameAt s at) (record { start = at; size = end - at })
+      → ToldAt s (placeFrom at (nameAt s at)) (nameAt s at) (record { start = at; size = end - at })
   unfolding placeFrom
   name-there end d h e n q =
       let i = name-inside s at end h q in
-      rw (name-some s at h (sym e ∙ not-false d n)) (tells s (nameAt s at) at (end - at) (omega arith) (there-bytes s at end d h e n q))
+      rw (name-some s at h (sym e ∙ not-false d n)) (told-at s (nameAt s at) at (end - at) (omega arith) (there-bytes s at end d h e n q))
 
 -- A mark is `0` or `1`.
 pub mark-zero : (f : List ℕ) (d : Bool) → d ≡ equal f (zeroByte ∷ []) → d ≡ true → true ≡ isMark f

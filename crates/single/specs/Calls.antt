@@ -51,7 +51,7 @@ use Rattle.reader.proofs.place_at.Reads as place-at
 use Rattle.reader.proofs.part.Reads as part
 use Rattle.printrow.specs.declared.Printed.{Printed}
 use Rattle.printing.proofs.print.Reads as print
-use Rattle.single.specs.Leaves.{part-at-single, tells-single, checks-single, start-leaves-single, leaves-single, run-leaves-single, print-leaves-single}
+use Rattle.single.specs.Leaves.{part-at-single, told-single, checks-single, start-leaves-single, leaves-single, run-leaves-single, print-leaves-single}
 
 -- bytes or numbers that the caller lends, and a part of them that is given back; `now` is what they hold, and `last seen seen′`
 -- are the lent numbers `seen` when they hold seen′ at last
@@ -197,7 +197,7 @@ module _ (κs : Lfts 1) (bytes : Lent) (number : ℕ) where
   field-place-takes = tt
 
   pub field-place-single : (r q : Part) → FieldPlacePromise r → FieldPlacePromise q → r ≡ q
-  field-place-single r q x y = tells-single x y
+  field-place-single r q x y = told-single x y
 
 -- declared::event_name(declarations, pattern, event), declared::pattern_name(declarations, pattern, at): the same
 module _ (κs : Lfts 2) (declarations pattern : Lent) (number : ℕ) where
@@ -229,7 +229,7 @@ module _ (κs : Lfts 1) (text : Lent) (number : ℕ) where
   event-place-takes = tt
 
   pub event-place-single : (r q : Part) → EventPlacePromise r → EventPlacePromise q → r ≡ q
-  event-place-single r q x y = tells-single x y
+  event-place-single r q x y = told-single x y
 
   abbrev pub PatternPlacePromise : Part → Type 0
   PatternPlacePromise r = pattern-place.Learnt κs (text, (number, tt)) r (text, (number, tt))
@@ -238,7 +238,7 @@ module _ (κs : Lfts 1) (text : Lent) (number : ℕ) where
   pattern-place-takes = tt
 
   pub pattern-place-single : (r q : Part) → PatternPlacePromise r → PatternPlacePromise q → r ≡ q
-  pattern-place-single r q x y = tells-single x y
+  pattern-place-single r q x y = told-single x y
 
 -- The reader holds a reference, so the checker reads no `Learnt` off its two calls: that `..Promise` is their contract is shown
 -- by `..-promise`, in every model `w` of the checker's logic.

@@ -11,7 +11,7 @@ use Rattle.document.specs.Log as document
 use Rattle.document.specs.Property.{Property}
 use Rattle.basics.specs.Sets.{holds-single}
 use Rattle.fields.specs.declared.Part.{Part}
-use Rattle.fields.specs.Places.{PartAt, Tells}
+use Rattle.fields.specs.Places.{PartAt, ToldAt}
 use Rattle.hopes.specs.declared.Checked.{Checked}
 use Rattle.hopes.specs.Hoping.{Checks}
 use Rattle.steps.specs.declared.Answered.{Answered}
@@ -29,8 +29,8 @@ pub part-at-single : {lent : RefT (List ℕ)} {start : ℕ} {bytes : List ℕ} {
 part-at-single x y = (x .holds ∙ sym (y .holds), x .lies ∙ sym (y .lies))
 
 -- the same part told by numbers
-pub tells-single : {text : List ℕ} {start : ℕ} {bytes : List ℕ} {r q : Part} → Tells text start bytes r → Tells text start bytes q → r ≡ q
-tells-single x y = λ i. record { start = (x .starts ∙ sym (y .starts)) i; size = (x .sizes ∙ sym (y .sizes)) i }
+pub told-single : {text : List ℕ} {start : ℕ} {bytes : List ℕ} {r q : Part} → ToldAt text start bytes r → ToldAt text start bytes q → r ≡ q
+told-single x y = λ i. record { start = (x .starts ∙ sym (y .starts)) i; size = (x .sizes ∙ sym (y .sizes)) i }
 
 -- what the check of a property table says
 pub checks-single : {p : Property} {r q : Checked} → Checks p r → Checks p q → r ≡ q

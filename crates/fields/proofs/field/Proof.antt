@@ -1,7 +1,7 @@
 -- `fields::field` meets its contract: the part at the place of the field.
 -- Assumes nothing.
 use native.Mathlib.Omega.{arith}
-use Rattle.fields.specs.PlacesLaws.{tells-part, tells-inside}
+use Rattle.fields.specs.PlacesLaws.{told-part}
 use borrow.Author.Needs.{needs}
 use Rattle.fields.proofs.field.Statement.{statement}
 use Rattle.fields.proofs.field.Tie as tie
@@ -22,7 +22,7 @@ part-result-end : tie.Need-part-result-end
 part-result-end c = search needs
 
 returns : tie.Need-returns
-returns c = search (needs, tells-part)
+returns c = search (needs, told-part)
 
 pub field-spec : {M : Type 1} → statement M
 field-spec = tie.close (tie.spec field-place-requires add-end sub-result part-result-start part-result-end returns)
