@@ -1,24 +1,6 @@
-//! The second program: document 01 decided by its definitions, to be compared byte for byte with
-//! another implementation. See README.md for what is decided how.
+//! Batches of requests and the makers of them, over the implementation.
 #![forbid(unsafe_code)]
 
 pub mod batch;
 pub mod cases;
-pub mod class;
-pub mod combination;
-pub mod declarations;
-pub mod history;
-pub mod limits;
-pub mod log;
 pub mod make;
-pub mod names;
-pub mod pattern;
-pub mod property;
-pub mod quick;
-pub mod refusal;
-pub mod rows;
-pub mod session;
-pub mod table;
-pub mod tokens;
-pub mod tree;
-pub mod watch;

@@ -5,11 +5,11 @@ use std::io::{self, Read, Write};
 use std::path::Path;
 use std::process::ExitCode;
 
+use implementation::watch::{watch, Way};
 use second::batch::answer::answer_batch;
 use second::cases;
 use second::make::folders::write_folders;
 use second::make::maker::make;
-use second::watch::{watch, Way};
 
 const USAGE: &str = "usage:
   second watch [--by-history] FOLDER   print what the watch program prints for FOLDER

@@ -4,11 +4,11 @@ mod common;
 
 use std::collections::{BTreeMap, BTreeSet};
 
+use implementation::watch::{watch, Way};
 use second::batch::answer::{answer_batch, answer_request};
 use second::batch::read::Items;
 use second::batch::state::State;
 use second::cases::{all, Case};
-use second::watch::{watch, Way};
 
 /// The refusals that document 01 lets each call give.
 const WANTED: [(&str, &[u32]); 16] = [

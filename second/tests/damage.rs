@@ -4,14 +4,14 @@
 mod common;
 
 use common::accepted;
-use second::combination::Combination;
+use implementation::combination::Combination;
+use implementation::property::Property;
+use implementation::refusal::Refusal;
+use implementation::session::{event, lookup, start, Lent};
 use second::make::damage::{PROPERTY_BESIDE, PROPERTY_CLAUSES, SESSION_BESIDE, SESSION_CLAUSES};
 use second::make::patterns::bare_property;
 use second::make::rng::Rng;
 use second::make::sessions::binding;
-use second::property::Property;
-use second::refusal::Refusal;
-use second::session::{event, lookup, start, Lent};
 
 /// A session after some events, in rooms with a part of a row behind them.
 fn session(rng: &mut Rng) -> (Property, Lent) {

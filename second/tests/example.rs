@@ -3,16 +3,16 @@
 mod common;
 
 use common::{plain, EVENTS, LOG, PATTERN};
-use second::combination::Combination;
-use second::history::{History, Rooms};
-use second::log::run;
-use second::property::Property;
-use second::refusal::Refusal;
-use second::rows::first_row;
-use second::session::{event, lookup, start, Found, Lent};
-use second::table::translate;
-use second::tree::Slices;
-use second::watch::{watch, Way};
+use implementation::combination::Combination;
+use implementation::history::{History, Rooms};
+use implementation::log::run;
+use implementation::property::Property;
+use implementation::refusal::Refusal;
+use implementation::rows::first_row;
+use implementation::session::{event, lookup, start, Found, Lent};
+use implementation::table::translate;
+use implementation::tree::Slices;
+use implementation::watch::{watch, Way};
 
 fn lent(seen: usize, kept: usize, reports: usize) -> Lent {
     Lent { seen: vec![0; seen * 4], kept: vec![0; kept * 5], reports: vec![0; reports * 5], ..Lent::default() }
@@ -170,7 +170,7 @@ fn values_of_a_field() {
     ] {
         let mut lent = lent(2, 2, 2);
         start(&property, &mut lent).unwrap();
-        let answer = second::log::row(EVENTS, &property, &mut lent, format!("mix,,{field}").as_bytes());
+        let answer = implementation::log::row(EVENTS, &property, &mut lent, format!("mix,,{field}").as_bytes());
         assert_eq!(answer.err(), refusal, "{field}");
     }
 }
@@ -188,8 +188,8 @@ fn seen_room_of_nothing() {
 #[test]
 fn the_history_says_the_same() {
     let property = example();
-    let declared = second::declarations::Declarations::read(EVENTS).unwrap();
-    let pattern = second::pattern::Pattern::read(&declared, PATTERN).unwrap();
+    let declared = implementation::declarations::Declarations::read(EVENTS).unwrap();
+    let pattern = implementation::pattern::Pattern::read(&declared, PATTERN).unwrap();
     let rooms = Rooms { seen: 5, kept: 3, reports: 1 };
     let mut history = History::start(&property, Slices::new(&pattern, 3), rooms).unwrap();
     let rows = [(0, [0, 7]), (1, [1, 7]), (2, [2, 0]), (1, [2, 7]), (2, [1, 0]), (2, [2, 0])];
@@ -227,7 +227,7 @@ fn refused_files_and_rows() {
 /// The class table, by ranges, over all entries.
 #[test]
 fn classes_by_ranges() {
-    use second::class::{class, Class};
+    use implementation::class::{class, Class};
     for byte in 0..=255u8 {
         let wanted = match byte {
             65..=90 | 97..=122 => Class::Letter,

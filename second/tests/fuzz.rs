@@ -4,21 +4,21 @@
 mod common;
 
 use common::accepted;
+use implementation::combination::Combination;
+use implementation::declarations::Declarations;
+use implementation::log::{judge_header, row, run};
+use implementation::names::{name_by_number, name_by_offset, number_of_name};
+use implementation::property::Property;
+use implementation::rows::field;
+use implementation::session::{event, lookup, start, Lent};
+use implementation::table::translate;
+use implementation::watch::{watch, Way};
 use second::batch::answer::answer_batch;
-use second::combination::Combination;
-use second::declarations::Declarations;
-use second::log::{judge_header, row, run};
 use second::make::folders::folder;
 use second::make::maker::make;
 use second::make::patterns::{bare_property, damaged_property};
 use second::make::rng::Rng;
 use second::make::texts::{any_declarations, damaged, noise};
-use second::names::{name_by_number, name_by_offset, number_of_name};
-use second::property::Property;
-use second::rows::field;
-use second::session::{event, lookup, start, Lent};
-use second::table::translate;
-use second::watch::{watch, Way};
 
 fn bytes(rng: &mut Rng, valid: &[u8]) -> Vec<u8> {
     match rng.below(10) {

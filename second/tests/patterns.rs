@@ -5,14 +5,14 @@ mod common;
 use common::grammar::{can_be_completed, completed_by_any, is_name, is_text};
 use common::span::Span;
 use common::{accepted, plain};
-use second::declarations::Declarations;
-use second::limits::{NESTING_LIMIT, POSITION_LIMIT};
+use implementation::declarations::Declarations;
+use implementation::limits::{NESTING_LIMIT, POSITION_LIMIT};
+use implementation::pattern::Pattern;
+use implementation::property::asks;
+use implementation::table::translate;
+use implementation::tokens::tokens;
 use second::make::patterns::spaced;
 use second::make::rng::Rng;
-use second::pattern::Pattern;
-use second::property::asks;
-use second::table::translate;
-use second::tokens::tokens;
 
 fn sequence(rng: &mut Rng, events: usize, limit: usize) -> Vec<usize> {
     (0..rng.below(limit)).map(|_| rng.below(events)).collect()

@@ -5,17 +5,17 @@ mod common;
 use std::collections::BTreeSet;
 
 use common::accepted;
+use implementation::log::{row, run};
+use implementation::rows::{rows, Reader};
+use implementation::session::{start, Lent};
+use implementation::watch::{watch, Way};
 use second::batch::answer::{answer_batch, answer_request};
 use second::batch::read::Items;
 use second::batch::state::State;
-use second::log::{row, run};
 use second::make::folders::folder;
 use second::make::maker::make;
 use second::make::rng::Rng;
 use second::make::texts;
-use second::rows::{rows, Reader};
-use second::session::{start, Lent};
-use second::watch::{watch, Way};
 
 fn watched(way: Way, files: [&[u8]; 3]) -> Vec<u8> {
     let mut out = Vec::new();

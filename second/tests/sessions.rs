@@ -5,16 +5,16 @@ mod common;
 use std::collections::BTreeSet;
 
 use common::accepted;
-use second::combination::Combination;
-use second::history::{extend_made, History, Judge, Rooms, TableJudge};
+use implementation::combination::Combination;
+use implementation::history::{extend_made, History, Judge, Rooms, TableJudge};
+use implementation::property::Property;
+use implementation::quick::Quick;
+use implementation::refusal::Refusal;
+use implementation::session::{event, lookup, start, Found, Lent, Marked};
+use implementation::tree::Slices;
 use second::make::patterns::bare_property;
 use second::make::rng::Rng;
 use second::make::sessions::binding;
-use second::property::Property;
-use second::quick::Quick;
-use second::refusal::Refusal;
-use second::session::{event, lookup, start, Found, Lent, Marked};
-use second::tree::Slices;
 
 fn lent(rooms: Rooms) -> Lent {
     let (seen, kept, reports) =

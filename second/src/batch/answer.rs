@@ -3,17 +3,17 @@
 use crate::batch::print::Answer;
 use crate::batch::read::Items;
 use crate::batch::state::State;
-use crate::class::CLASSES;
-use crate::declarations::Declarations;
-use crate::limits::STATE_LIMIT;
-use crate::log::judge_header;
-use crate::names::{name_by_number, name_by_offset, number_of_name};
-use crate::pattern::Pattern;
-use crate::property::Hopeful;
-use crate::refusal::{Refusal, Refused};
-use crate::rows::{field, rows, Reader};
-use crate::table::table;
-use crate::watch::{watch, Way};
+use implementation::class::CLASSES;
+use implementation::declarations::Declarations;
+use implementation::limits::STATE_LIMIT;
+use implementation::log::judge_header;
+use implementation::names::{name_by_number, name_by_offset, number_of_name};
+use implementation::pattern::Pattern;
+use implementation::property::Hopeful;
+use implementation::refusal::{Refusal, Refused};
+use implementation::rows::{field, rows, Reader};
+use implementation::table::table;
+use implementation::watch::{watch, Way};
 
 /// The answers to a batch, a line for each request. At the first request that is not of the form
 /// the answer is `malformed`, and the batch ends there.
@@ -116,7 +116,7 @@ fn pattern_call(word: &[u8], items: &mut Items) -> Option<Answer> {
 }
 
 fn translate(declarations: &[u8], text: &[u8]) -> Result<Answer, Refused> {
-    let property = crate::table::translate(declarations, text)?;
+    let property = implementation::table::translate(declarations, text)?;
     let hopeful = property.check()?;
     let answer = Answer::default().word("table").property(&property);
     Ok(answer.word("hopeful").list(&hopeful_states(&hopeful)))

@@ -1,8 +1,8 @@
 //! Printing answers.
 
-use crate::property::Property;
-use crate::refusal::Refused;
-use crate::session::Lent;
+use implementation::property::Property;
+use implementation::refusal::Refused;
+use implementation::session::Lent;
 
 /// Runs of this many equal numbers or more are printed as one item.
 const RUN: usize = 4;

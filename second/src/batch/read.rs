@@ -1,7 +1,7 @@
 //! Reading a batch: one request a line, items one space apart.
 
-use crate::limits::{EVENT_LIMIT, STATE_LIMIT, WIDTH};
-use crate::property::{Property, NEXT_LENGTH};
+use implementation::limits::{EVENT_LIMIT, STATE_LIMIT, WIDTH};
+use implementation::property::{Property, NEXT_LENGTH};
 
 /// The part of a batch not yet read. Each reader answers nothing if the bytes are not of the form.
 pub struct Items<'b> {

@@ -2,14 +2,14 @@
 
 use crate::batch::print::Answer;
 use crate::batch::read::Items;
-use crate::combination::Combination;
-use crate::limits::REPORT_WIDTH;
-use crate::log;
-use crate::property::Property;
-use crate::refusal::Refusal;
-use crate::session::{self, Found, Lent, Marked};
-use crate::table::translate;
-use crate::watch::print_row;
+use implementation::combination::Combination;
+use implementation::limits::REPORT_WIDTH;
+use implementation::log;
+use implementation::property::Property;
+use implementation::refusal::Refusal;
+use implementation::session::{self, Found, Lent, Marked};
+use implementation::table::translate;
+use implementation::watch::print_row;
 
 /// The remembered property, declarations and lent numbers. All is 0 or empty at first.
 pub struct State {

@@ -1,7 +1,7 @@
 //! Writing requests.
 
-use crate::limits::EVENT_LIMIT;
-use crate::property::Property;
+use implementation::limits::EVENT_LIMIT;
+use implementation::property::Property;
 
 /// One request, written item by item.
 #[derive(Clone, Debug, Default)]

@@ -178,7 +178,7 @@ fn headers() -> Vec<Request> {
     requests.push(call("header").bytes(&text).bytes(format!("{header}x")));
     requests.push(call("header").bytes("event\r\na").bytes("event"));
     for bad in one_for_each() {
-        requests.push(call("header").bytes(&bad).bytes(crate::rows::first_row(&bad)));
+        requests.push(call("header").bytes(&bad).bytes(implementation::rows::first_row(&bad)));
         requests.push(call("header").bytes(&bad).bytes("event,bay"));
     }
     requests

@@ -27,7 +27,7 @@ fn ready() -> Vec<Request> {
 
 fn example() -> Vec<Request> {
     let mut requests = ready();
-    for (i, text) in crate::rows::rows(ROWS).enumerate() {
+    for (i, text) in implementation::rows::rows(ROWS).enumerate() {
         requests.push(row(text));
         requests.push(lines(i as u64 + 1));
     }

@@ -2,9 +2,9 @@
 
 use crate::batch::write::{call, Request};
 use crate::cases::{EVENTS, PATTERN};
-use crate::limits::EVENT_LIMIT;
-use crate::property::Property;
-use crate::table::translate;
+use implementation::limits::EVENT_LIMIT;
+use implementation::property::Property;
+use implementation::table::translate;
 
 /// The table of the document's example.
 pub fn example() -> Property {

@@ -1,11 +1,11 @@
 //! Damage by one number: each clause of refusals 11 and 12 in document 01's list, and what stands beside it untouched.
 //! A change answers nothing where the tables at hand have no place for it.
 
-use crate::combination::Combination;
-use crate::limits::{ASKED_BOTH, EVENT_LIMIT, KEPT_WIDTH, SEEN_WIDTH, STATE_LIMIT, VERDICT_LIMIT, WIDTH};
 use crate::make::rng::Rng;
-use crate::property::Property;
-use crate::session::{join_of_included, Lent};
+use implementation::combination::Combination;
+use implementation::limits::{ASKED_BOTH, EVENT_LIMIT, KEPT_WIDTH, SEEN_WIDTH, STATE_LIMIT, VERDICT_LIMIT, WIDTH};
+use implementation::property::Property;
+use implementation::session::{join_of_included, Lent};
 
 /// A change of one number of the lent tables or their counts.
 pub type SessionChange = fn(&mut Rng, &Property, &mut Lent) -> Option<()>;

@@ -1,9 +1,9 @@
 //! Random pattern texts and property tables.
 
-use crate::limits::EVENT_LIMIT;
 use crate::make::rng::Rng;
 use crate::make::texts::{damaged, noise, Declared};
-use crate::property::{Property, NEXT_LENGTH};
+use implementation::limits::EVENT_LIMIT;
+use implementation::property::{Property, NEXT_LENGTH};
 
 const HANDLERS: [&[&str]; 6] =
     [&["@match"], &["@match"], &["@fail"], &["@fail"], &["@match", "@fail"], &["@fail", "@match"]];

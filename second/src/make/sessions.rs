@@ -1,15 +1,15 @@
 //! Random sessions: few distinct values, small rooms, damage by one number.
 
 use crate::batch::write::call;
-use crate::combination::Combination;
-use crate::limits::{KEPT_WIDTH, REPORT_WIDTH, SEEN_WIDTH, WIDTH};
 use crate::make::damage::{some, PROPERTY_BESIDE, PROPERTY_CLAUSES, SESSION_BESIDE, SESSION_CLAUSES};
 use crate::make::maker::Maker;
 use crate::make::patterns::{bare_property, damaged_property, pattern};
 use crate::make::rng::Rng;
 use crate::make::texts::{declarations, value};
-use crate::property::Property;
-use crate::session::Lent;
+use implementation::combination::Combination;
+use implementation::limits::{KEPT_WIDTH, REPORT_WIDTH, SEEN_WIDTH, WIDTH};
+use implementation::property::Property;
+use implementation::session::Lent;
 
 /// A property, tables lent, a start and some calls.
 pub fn scene(maker: &mut Maker) {

@@ -4,13 +4,13 @@
 pub mod grammar;
 pub mod span;
 
-use second::declarations::Declarations;
+use implementation::declarations::Declarations;
+use implementation::pattern::Pattern;
+use implementation::property::Property;
+use implementation::table::table;
 use second::make::patterns;
 use second::make::rng::Rng;
 use second::make::texts;
-use second::pattern::Pattern;
-use second::property::Property;
-use second::table::table;
 
 /// The document's example.
 pub const EVENTS: &[u8] = b"event,bay,batch\r\nmix,0,1\r\nfeed,1,1\r\ndrain,1,0\r\n";

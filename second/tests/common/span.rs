@@ -3,8 +3,8 @@
 
 use std::collections::BTreeSet;
 
-use second::limits::{FAIL, MATCH, UNDECIDED};
-use second::pattern::{Node, NodeId, Operator, Pattern};
+use implementation::limits::{FAIL, MATCH, UNDECIDED};
+use implementation::pattern::{Node, NodeId, Operator, Pattern};
 
 pub struct Span<'a> {
     pub pattern: &'a Pattern,
