@@ -1,6 +1,6 @@
-//! Batches of requests and the makers of them, over the implementation.
+//! The makers of batches and folders, over the implementation.
 #![forbid(unsafe_code)]
 
-pub mod batch;
 pub mod cases;
 pub mod make;
+pub mod request;

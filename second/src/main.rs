@@ -5,8 +5,9 @@ use std::io::{self, Read, Write};
 use std::path::Path;
 use std::process::ExitCode;
 
+use batches::answer::answer_batch;
+use batches::recheck::recheck;
 use implementation::watch::{watch, Way};
-use second::batch::answer::answer_batch;
 use second::cases;
 use second::make::folders::write_folders;
 use second::make::maker::make;
@@ -50,7 +51,7 @@ fn command(words: &[&str]) -> io::Result<bool> {
         ["folders", seed, count, dir] => write_folders(parsed(seed)?, parsed(count)?, Path::new(dir)),
         ["watch-each", dir] => watch_each(Path::new(dir)),
         ["cases", dir] => cases::write(Path::new(dir)),
-        ["recheck", dir] => return cases::recheck(Path::new(dir)),
+        ["recheck", dir] => return recheck(Path::new(dir)),
         _ => Err(usage()),
     }?;
     Ok(true)

@@ -4,10 +4,10 @@ mod common;
 
 use std::collections::{BTreeMap, BTreeSet};
 
+use batches::answer::{answer_batch, answer_request};
+use batches::read::Items;
+use batches::state::State;
 use implementation::watch::{watch, Way};
-use second::batch::answer::{answer_batch, answer_request};
-use second::batch::read::Items;
-use second::batch::state::State;
 use second::cases::{all, Case};
 
 /// The refusals that document 01 lets each call give.

@@ -3,6 +3,7 @@
 
 mod common;
 
+use batches::answer::answer_batch;
 use common::accepted;
 use implementation::combination::Combination;
 use implementation::declarations::Declarations;
@@ -13,7 +14,6 @@ use implementation::rows::field;
 use implementation::session::{event, lookup, start, Lent};
 use implementation::table::translate;
 use implementation::watch::{watch, Way};
-use second::batch::answer::answer_batch;
 use second::make::folders::folder;
 use second::make::maker::make;
 use second::make::patterns::{bare_property, damaged_property};

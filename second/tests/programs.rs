@@ -4,14 +4,14 @@ mod common;
 
 use std::collections::BTreeSet;
 
+use batches::answer::{answer_batch, answer_request};
+use batches::read::Items;
+use batches::state::State;
 use common::accepted;
 use implementation::log::{row, run};
 use implementation::rows::{rows, Reader};
 use implementation::session::{start, Lent};
 use implementation::watch::{watch, Way};
-use second::batch::answer::{answer_batch, answer_request};
-use second::batch::read::Items;
-use second::batch::state::State;
 use second::make::folders::folder;
 use second::make::maker::make;
 use second::make::rng::Rng;

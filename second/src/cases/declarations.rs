@@ -1,7 +1,7 @@
 //! Chosen cases: declarations, and the calls that judge them before anything else.
 
-use crate::batch::write::{call, Request};
 use crate::cases::{case, Case};
+use crate::request::{call, Request};
 
 /// Sixteen events of no parameter and what follows them.
 fn sixteen(behind: &str) -> String {

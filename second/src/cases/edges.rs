@@ -3,7 +3,7 @@
 
 use super::sessions::{fill, start, texts};
 use super::{case, Case};
-use crate::batch::write::{call, Request};
+use crate::request::{call, Request};
 
 const EVENTS: &str = "event,x\r\nmark,1\r\nall,0\r\n";
 const PATTERN: &str = "ere : mark all @match";

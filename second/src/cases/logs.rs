@@ -1,10 +1,10 @@
 //! Chosen cases: rows, runs and printed lines.
 
-use crate::batch::write::{call, Request};
 use crate::cases::declarations::one_for_each;
 use crate::cases::properties::changed;
 use crate::cases::sessions::{fill, start, texts};
 use crate::cases::{case, Case, EVENTS, HEADER, PATTERN, ROWS};
+use crate::request::{call, Request};
 
 fn row(row: impl AsRef<[u8]>) -> Request {
     call("row").bytes(row)

@@ -1,8 +1,8 @@
 //! Chosen cases: pattern texts, verdicts, property tables.
 
-use crate::batch::write::{call, Request};
 use crate::cases::declarations::one_for_each;
 use crate::cases::{case, Case, EVENTS, PATTERN};
+use crate::request::{call, Request};
 
 const A: &str = "event\r\na\r\n";
 const AB: &str = "event\r\na\r\nb\r\n";

@@ -1,7 +1,7 @@
 //! Chosen property tables: each clause of refusal 11 broken by one number, and its other side.
 
-use crate::batch::write::{call, Request};
 use crate::cases::{EVENTS, PATTERN};
+use crate::request::{call, Request};
 use implementation::limits::EVENT_LIMIT;
 use implementation::property::Property;
 use implementation::table::translate;

@@ -1,8 +1,8 @@
 //! Chosen cases: rooms that run out, room that is freed, and the limits of 1,024 and 3,000 rows.
 
-use crate::batch::write::{call, Request};
 use crate::cases::sessions::{event, fill, lookup, start, texts};
 use crate::cases::{case, Case};
+use crate::request::{call, Request};
 
 /// a binds x, b binds y, c binds both, e binds nothing.
 const GRID: &str = "event,x,y\r\na,1,0\r\nb,0,1\r\nc,1,1\r\ne,0,0\r\n";

@@ -1,8 +1,8 @@
 //! Chosen cases: start, events and lookups.
 
-use crate::batch::write::{call, Request};
 use crate::cases::properties::{changed, outside, within};
 use crate::cases::{case, Case, EVENTS, PATTERN};
+use crate::request::{call, Request};
 
 /// Requests that set declarations and pattern.
 pub fn texts(events: impl AsRef<[u8]>, pattern: impl AsRef<[u8]>) -> Vec<Request> {

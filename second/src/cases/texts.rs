@@ -1,8 +1,8 @@
 //! Chosen cases: rows, fields, names, classes.
 
-use crate::batch::write::{call, Request};
 use crate::cases::declarations::one_for_each;
 use crate::cases::{case, Case, EVENTS, PATTERN};
+use crate::request::{call, Request};
 
 /// Texts with every kind of line end.
 const LINES: [&[u8]; 22] = [

@@ -1,8 +1,8 @@
 //! Chosen cases: what the watch program prints for three files.
 
-use crate::batch::write::{call, Request};
 use crate::cases::declarations::one_for_each;
 use crate::cases::{case, Case, EVENTS, HEADER, PATTERN, ROWS};
+use crate::request::{call, Request};
 
 fn watch(events: impl AsRef<[u8]>, pattern: impl AsRef<[u8]>, log: impl AsRef<[u8]>) -> Request {
     call("watch").bytes(events).bytes(pattern).bytes(log)

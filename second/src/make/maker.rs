@@ -1,11 +1,11 @@
 //! A batch in the making: each request is also answered, so that the next one can build on it.
 
-use crate::batch::answer::answer_request;
-use crate::batch::read::Items;
-use crate::batch::state::State;
-use crate::batch::write::{call, Request};
 use crate::make::rng::Rng;
 use crate::make::{logs, patterns, sessions, texts};
+use crate::request::{call, Request};
+use batches::answer::answer_request;
+use batches::read::Items;
+use batches::state::State;
 
 pub struct Maker {
     pub rng: Rng,

@@ -1,7 +1,7 @@
 //! What a batch remembers from one request to the next, and the calls that use it.
 
-use crate::batch::print::Answer;
-use crate::batch::read::Items;
+use crate::print::Answer;
+use crate::read::Items;
 use implementation::combination::Combination;
 use implementation::limits::REPORT_WIDTH;
 use implementation::log;

@@ -1,8 +1,8 @@
 //! Answering a batch, and the calls that remember nothing.
 
-use crate::batch::print::Answer;
-use crate::batch::read::Items;
-use crate::batch::state::State;
+use crate::print::Answer;
+use crate::read::Items;
+use crate::state::State;
 use implementation::class::CLASSES;
 use implementation::declarations::Declarations;
 use implementation::limits::STATE_LIMIT;
