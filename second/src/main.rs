@@ -8,9 +8,9 @@ use std::process::ExitCode;
 use batches::answer::answer_batch;
 use batches::recheck::recheck;
 use implementation::watch::{watch, Way};
-use second::cases;
-use second::make::folders::write_folders;
-use second::make::maker::make;
+use makers::chosen;
+use makers::random::folders::write_folders;
+use makers::random::maker::make;
 
 const USAGE: &str = "usage:
   second watch [--by-history] FOLDER   print what the watch program prints for FOLDER
@@ -50,7 +50,7 @@ fn command(words: &[&str]) -> io::Result<bool> {
         }
         ["folders", seed, count, dir] => write_folders(parsed(seed)?, parsed(count)?, Path::new(dir)),
         ["watch-each", dir] => watch_each(Path::new(dir)),
-        ["cases", dir] => cases::write(Path::new(dir)),
+        ["cases", dir] => chosen::write(Path::new(dir)),
         ["recheck", dir] => return recheck(Path::new(dir)),
         _ => Err(usage()),
     }?;

@@ -8,7 +8,7 @@ use batches::answer::{answer_batch, answer_request};
 use batches::read::Items;
 use batches::state::State;
 use implementation::watch::{watch, Way};
-use second::cases::{all, Case};
+use makers::chosen::{all, Case};
 
 /// The refusals that document 01 lets each call give.
 const WANTED: [(&str, &[u32]); 16] = [

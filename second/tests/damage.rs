@@ -8,10 +8,10 @@ use implementation::combination::Combination;
 use implementation::property::Property;
 use implementation::refusal::Refusal;
 use implementation::session::{event, lookup, start, Lent};
-use second::make::damage::{PROPERTY_BESIDE, PROPERTY_CLAUSES, SESSION_BESIDE, SESSION_CLAUSES};
-use second::make::patterns::bare_property;
-use second::make::rng::Rng;
-use second::make::sessions::binding;
+use makers::random::damage::{PROPERTY_BESIDE, PROPERTY_CLAUSES, SESSION_BESIDE, SESSION_CLAUSES};
+use makers::random::patterns::bare_property;
+use makers::random::rng::Rng;
+use makers::random::sessions::binding;
 
 /// A session after some events, in rooms with a part of a row behind them.
 fn session(rng: &mut Rng) -> (Property, Lent) {

@@ -14,11 +14,11 @@ use implementation::rows::field;
 use implementation::session::{event, lookup, start, Lent};
 use implementation::table::translate;
 use implementation::watch::{watch, Way};
-use second::make::folders::folder;
-use second::make::maker::make;
-use second::make::patterns::{bare_property, damaged_property};
-use second::make::rng::Rng;
-use second::make::texts::{any_declarations, damaged, noise};
+use makers::random::folders::folder;
+use makers::random::maker::make;
+use makers::random::patterns::{bare_property, damaged_property};
+use makers::random::rng::Rng;
+use makers::random::texts::{any_declarations, damaged, noise};
 
 fn bytes(rng: &mut Rng, valid: &[u8]) -> Vec<u8> {
     match rng.below(10) {

@@ -11,8 +11,8 @@ use implementation::pattern::Pattern;
 use implementation::property::asks;
 use implementation::table::translate;
 use implementation::tokens::tokens;
-use second::make::patterns::spaced;
-use second::make::rng::Rng;
+use makers::random::patterns::spaced;
+use makers::random::rng::Rng;
 
 fn sequence(rng: &mut Rng, events: usize, limit: usize) -> Vec<usize> {
     (0..rng.below(limit)).map(|_| rng.below(events)).collect()
@@ -114,7 +114,7 @@ const WORDS: [&str; 14] = ["ere", ":", "a", "b", "(", ")", "|", "*", "+", "@matc
 /// Tokens that follow the grammar for a while and then need not.
 fn some_tokens(rng: &mut Rng) -> Vec<String> {
     let names = ["a".to_string(), "b".to_string(), "ere".to_string()];
-    let mut tokens = second::make::patterns::tokens(rng, &names, 1);
+    let mut tokens = makers::random::patterns::tokens(rng, &names, 1);
     for _ in 0..rng.below(3) {
         let place = rng.below(tokens.len() + 1);
         match rng.below(3) {

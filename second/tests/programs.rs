@@ -12,10 +12,10 @@ use implementation::log::{row, run};
 use implementation::rows::{rows, Reader};
 use implementation::session::{start, Lent};
 use implementation::watch::{watch, Way};
-use second::make::folders::folder;
-use second::make::maker::make;
-use second::make::rng::Rng;
-use second::make::texts;
+use makers::random::folders::folder;
+use makers::random::maker::make;
+use makers::random::rng::Rng;
+use makers::random::texts;
 
 fn watched(way: Way, files: [&[u8]; 3]) -> Vec<u8> {
     let mut out = Vec::new();

@@ -12,9 +12,9 @@ use implementation::quick::Quick;
 use implementation::refusal::Refusal;
 use implementation::session::{event, lookup, start, Found, Lent, Marked};
 use implementation::tree::Slices;
-use second::make::patterns::bare_property;
-use second::make::rng::Rng;
-use second::make::sessions::binding;
+use makers::random::patterns::bare_property;
+use makers::random::rng::Rng;
+use makers::random::sessions::binding;
 
 fn lent(rooms: Rooms) -> Lent {
     let (seen, kept, reports) =

@@ -8,9 +8,9 @@ use implementation::declarations::Declarations;
 use implementation::pattern::Pattern;
 use implementation::property::Property;
 use implementation::table::table;
-use second::make::patterns;
-use second::make::rng::Rng;
-use second::make::texts;
+use makers::random::patterns;
+use makers::random::rng::Rng;
+use makers::random::texts;
 
 /// The document's example.
 pub const EVENTS: &[u8] = b"event,bay,batch\r\nmix,0,1\r\nfeed,1,1\r\ndrain,1,0\r\n";

@@ -4,9 +4,9 @@ use std::fs;
 use std::io;
 use std::path::Path;
 
-use crate::make::patterns::{any_pattern, pattern};
-use crate::make::rng::Rng;
-use crate::make::texts::{any_declarations, any_row, declarations, log, Declared};
+use crate::random::patterns::{any_pattern, pattern};
+use crate::random::rng::Rng;
+use crate::random::texts::{any_declarations, any_row, declarations, log, Declared};
 
 /// The program reads a log through one buffer of some size. Places around multiples of this many bytes are where it may cut.
 const BUFFER: usize = 65_536;

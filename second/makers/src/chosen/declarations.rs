@@ -1,6 +1,6 @@
 //! Chosen cases: declarations, and the calls that judge them before anything else.
 
-use crate::cases::{case, Case};
+use crate::chosen::{case, Case};
 use crate::request::{call, Request};
 
 /// Sixteen events of no parameter and what follows them.

@@ -1,7 +1,7 @@
 //! Damage by one number: each clause of refusals 11 and 12 in document 01's list, and what stands beside it untouched.
 //! A change answers nothing where the tables at hand have no place for it.
 
-use crate::make::rng::Rng;
+use crate::random::rng::Rng;
 use implementation::combination::Combination;
 use implementation::limits::{ASKED_BOTH, EVENT_LIMIT, KEPT_WIDTH, SEEN_WIDTH, STATE_LIMIT, VERDICT_LIMIT, WIDTH};
 use implementation::property::Property;

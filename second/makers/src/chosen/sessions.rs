@@ -1,7 +1,7 @@
 //! Chosen cases: start, events and lookups.
 
-use crate::cases::properties::{changed, outside, within};
-use crate::cases::{case, Case, EVENTS, PATTERN};
+use crate::chosen::properties::{changed, outside, within};
+use crate::chosen::{case, Case, EVENTS, PATTERN};
 use crate::request::{call, Request};
 
 /// Requests that set declarations and pattern.

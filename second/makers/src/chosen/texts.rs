@@ -1,7 +1,7 @@
 //! Chosen cases: rows, fields, names, classes.
 
-use crate::cases::declarations::one_for_each;
-use crate::cases::{case, Case, EVENTS, PATTERN};
+use crate::chosen::declarations::one_for_each;
+use crate::chosen::{case, Case, EVENTS, PATTERN};
 use crate::request::{call, Request};
 
 /// Texts with every kind of line end.

@@ -1,7 +1,7 @@
 //! Chosen cases: rooms that run out, room that is freed, and the limits of 1,024 and 3,000 rows.
 
-use crate::cases::sessions::{event, fill, lookup, start, texts};
-use crate::cases::{case, Case};
+use crate::chosen::sessions::{event, fill, lookup, start, texts};
+use crate::chosen::{case, Case};
 use crate::request::{call, Request};
 
 /// a binds x, b binds y, c binds both, e binds nothing.

@@ -1,6 +1,6 @@
 //! Chosen property tables: each clause of refusal 11 broken by one number, and its other side.
 
-use crate::cases::{EVENTS, PATTERN};
+use crate::chosen::{EVENTS, PATTERN};
 use crate::request::{call, Request};
 use implementation::limits::EVENT_LIMIT;
 use implementation::property::Property;

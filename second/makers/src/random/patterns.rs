@@ -1,7 +1,7 @@
 //! Random pattern texts and property tables.
 
-use crate::make::rng::Rng;
-use crate::make::texts::{damaged, noise, Declared};
+use crate::random::rng::Rng;
+use crate::random::texts::{damaged, noise, Declared};
 use implementation::limits::EVENT_LIMIT;
 use implementation::property::{Property, NEXT_LENGTH};
 

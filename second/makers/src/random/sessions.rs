@@ -1,10 +1,10 @@
 //! Random sessions: few distinct values, small rooms, damage by one number.
 
-use crate::make::damage::{some, PROPERTY_BESIDE, PROPERTY_CLAUSES, SESSION_BESIDE, SESSION_CLAUSES};
-use crate::make::maker::Maker;
-use crate::make::patterns::{bare_property, damaged_property, pattern};
-use crate::make::rng::Rng;
-use crate::make::texts::{declarations, value};
+use crate::random::damage::{some, PROPERTY_BESIDE, PROPERTY_CLAUSES, SESSION_BESIDE, SESSION_CLAUSES};
+use crate::random::maker::Maker;
+use crate::random::patterns::{bare_property, damaged_property, pattern};
+use crate::random::rng::Rng;
+use crate::random::texts::{declarations, value};
 use crate::request::call;
 use implementation::combination::Combination;
 use implementation::limits::{KEPT_WIDTH, REPORT_WIDTH, SEEN_WIDTH, WIDTH};

@@ -1,7 +1,7 @@
 //! Chosen cases: each clause of refusal 12 broken by one number, and its other side.
 
-use crate::cases::sessions::{event, lookup, texts};
-use crate::cases::{case, Case, EVENTS, PATTERN};
+use crate::chosen::sessions::{event, lookup, texts};
+use crate::chosen::{case, Case, EVENTS, PATTERN};
 use crate::request::{call, Request};
 
 /// Tables after the first three rows of the example, in a room of five rows and a part of a row.

@@ -1,7 +1,7 @@
 //! Chosen cases: what the watch program prints for three files.
 
-use crate::cases::declarations::one_for_each;
-use crate::cases::{case, Case, EVENTS, HEADER, PATTERN, ROWS};
+use crate::chosen::declarations::one_for_each;
+use crate::chosen::{case, Case, EVENTS, HEADER, PATTERN, ROWS};
 use crate::request::{call, Request};
 
 fn watch(events: impl AsRef<[u8]>, pattern: impl AsRef<[u8]>, log: impl AsRef<[u8]>) -> Request {

@@ -1,9 +1,9 @@
 //! Chosen cases: rows, runs and printed lines.
 
-use crate::cases::declarations::one_for_each;
-use crate::cases::properties::changed;
-use crate::cases::sessions::{fill, start, texts};
-use crate::cases::{case, Case, EVENTS, HEADER, PATTERN, ROWS};
+use crate::chosen::declarations::one_for_each;
+use crate::chosen::properties::changed;
+use crate::chosen::sessions::{fill, start, texts};
+use crate::chosen::{case, Case, EVENTS, HEADER, PATTERN, ROWS};
 use crate::request::{call, Request};
 
 fn row(row: impl AsRef<[u8]>) -> Request {
@@ -133,14 +133,14 @@ fn rows() -> Vec<Request> {
         requests.push(lines(i as u64));
     }
     // no parameter: an empty row has the right number of fields
-    requests.extend(crate::cases::sessions::texts("event\r\na", "ere:a@fail"));
+    requests.extend(crate::chosen::sessions::texts("event\r\na", "ere:a@fail"));
     requests.extend([fill(0, 10, 10), start()]);
     for text in ["", "a", "a,", "b", "a\n", "a"] {
         requests.extend([row(text), lines(1)]);
     }
     // the longest row that is taken
     requests
-        .extend(crate::cases::sessions::texts(format!("event,w,x,y,z\r\n{n32},1,1,1,1"), format!("ere:{n32}@match")));
+        .extend(crate::chosen::sessions::texts(format!("event,w,x,y,z\r\n{n32},1,1,1,1"), format!("ere:{n32}@match")));
     requests.extend([fill(8, 10, 10), start()]);
     requests.push(row(format!("{n32},4294967295,4294967295,4294967295,4294967295")));
     requests.push(lines(u64::MAX - 1));

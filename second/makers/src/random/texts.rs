@@ -1,6 +1,6 @@
 //! Random declarations, rows and damage to bytes.
 
-use crate::make::rng::Rng;
+use crate::random::rng::Rng;
 
 const PARAMETERS: [&str; 8] = ["bay", "batch", "valve", "tank", "event", "x", "epsilon", "Bay"];
 const EVENTS: [&str; 20] = [

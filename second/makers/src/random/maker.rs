@@ -1,7 +1,7 @@
 //! A batch in the making: each request is also answered, so that the next one can build on it.
 
-use crate::make::rng::Rng;
-use crate::make::{logs, patterns, sessions, texts};
+use crate::random::rng::Rng;
+use crate::random::{logs, patterns, sessions, texts};
 use crate::request::{call, Request};
 use batches::answer::answer_request;
 use batches::read::Items;

@@ -1,7 +1,7 @@
 //! Chosen cases: pattern texts, verdicts, property tables.
 
-use crate::cases::declarations::one_for_each;
-use crate::cases::{case, Case, EVENTS, PATTERN};
+use crate::chosen::declarations::one_for_each;
+use crate::chosen::{case, Case, EVENTS, PATTERN};
 use crate::request::{call, Request};
 
 const A: &str = "event\r\na\r\n";
@@ -320,6 +320,6 @@ pub fn cases() -> Vec<Case> {
         case("patterns", "states", states()),
         case("patterns", "lengths-and-orders", lengths_and_orders()),
         case("patterns", "verdicts", verdicts()),
-        case("patterns", "check", crate::cases::properties::checks()),
+        case("patterns", "check", crate::chosen::properties::checks()),
     ]
 }

@@ -1,10 +1,10 @@
 //! Random logs: rows and runs into sessions, and whole files for the program.
 
-use crate::make::maker::Maker;
-use crate::make::patterns::{any_pattern, bare_property, pattern};
-use crate::make::rng::Rng;
-use crate::make::sessions::lend;
-use crate::make::texts::{any_declarations, any_row, damaged, declarations, log, Declared};
+use crate::random::maker::Maker;
+use crate::random::patterns::{any_pattern, bare_property, pattern};
+use crate::random::rng::Rng;
+use crate::random::sessions::lend;
+use crate::random::texts::{any_declarations, any_row, damaged, declarations, log, Declared};
 use crate::request::call;
 
 pub fn scene(maker: &mut Maker) {
