@@ -9,8 +9,8 @@ use batches::answer::answer_batch;
 use batches::recheck::recheck;
 use implementation::watch::{watch, Way};
 use makers::chosen;
+use makers::random::batch::make;
 use makers::random::folders::write_folders;
-use makers::random::maker::make;
 
 const USAGE: &str = "usage:
   second watch [--by-history] FOLDER   print what the watch program prints for FOLDER

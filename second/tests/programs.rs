@@ -12,8 +12,8 @@ use implementation::log::{row, run};
 use implementation::rows::{rows, Reader};
 use implementation::session::{start, Lent};
 use implementation::watch::{watch, Way};
+use makers::random::batch::make;
 use makers::random::folders::folder;
-use makers::random::maker::make;
 use makers::random::rng::Rng;
 use makers::random::texts;
 

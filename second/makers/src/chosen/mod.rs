@@ -5,7 +5,7 @@ use std::fs;
 use std::io;
 use std::path::Path;
 
-use crate::random::maker::make;
+use crate::random::batch::make;
 use crate::request::Request;
 use batches::answer::answer_batch;
 

@@ -1,5 +1,6 @@
 //! Random batches and folders. Everything here depends on the seed alone.
 
+pub mod batch;
 pub mod damage;
 pub mod folders;
 pub mod logs;
