@@ -1,13 +1,16 @@
 //! The command line of the second program.
 #![forbid(unsafe_code)]
 
+mod folders;
+
 use std::io::{self, Read, Write};
 use std::path::Path;
 use std::process::ExitCode;
 
 use batches::answer::answer_batch;
 use batches::recheck::recheck;
-use implementation::watch::{watch, Way};
+use folders::{watch_each, watch_each_by_history, watch_folder};
+use implementation::watch::Way;
 use makers::chosen;
 use makers::random::batch::make;
 use makers::random::folders::write_folders;
@@ -18,6 +21,8 @@ const USAGE: &str = "usage:
   second make KIND SEED COUNT          make a random batch: texts, patterns, sessions or logs
   second folders SEED COUNT DIR        make random folders for the watch program
   second watch-each DIR                write what the program prints for each folder of DIR to its file expected
+  second watch-each --by-history-up-to ROWS DIR
+                                       the same, the first ROWS rows of each log decided by the whole history
   second cases DIR                     write the chosen cases
   second recheck DIR                   answer every batch of DIR again and compare";
 
@@ -37,8 +42,8 @@ fn main() -> ExitCode {
 /// Runs a command; false if it found a difference.
 fn command(words: &[&str]) -> io::Result<bool> {
     match *words {
-        ["watch", folder] => watch_folder(Way::ByTables, folder),
-        ["watch", "--by-history", folder] => watch_folder(Way::ByHistory, folder),
+        ["watch", folder] => watch_folder(Way::ByTables, Path::new(folder)),
+        ["watch", "--by-history", folder] => watch_folder(Way::ByHistory, Path::new(folder)),
         ["answer"] => {
             let mut batch = Vec::new();
             io::stdin().lock().read_to_end(&mut batch)?;
@@ -50,6 +55,9 @@ fn command(words: &[&str]) -> io::Result<bool> {
         }
         ["folders", seed, count, dir] => write_folders(parsed(seed)?, parsed(count)?, Path::new(dir)),
         ["watch-each", dir] => watch_each(Path::new(dir)),
+        ["watch-each", "--by-history-up-to", rows, dir] => {
+            return watch_each_by_history(parsed(rows)?, Path::new(dir));
+        }
         ["cases", dir] => chosen::write(Path::new(dir)),
         ["recheck", dir] => return recheck(Path::new(dir)),
         _ => Err(usage()),
@@ -63,28 +71,4 @@ fn usage() -> io::Error {
 
 fn parsed<T: std::str::FromStr>(word: &str) -> io::Result<T> {
     word.parse().map_err(|_| usage())
-}
-
-/// Prints what the watch program prints for a folder; a missing file counts as empty.
-fn watch_folder(way: Way, folder: &str) -> io::Result<()> {
-    watch_to(way, Path::new(folder), io::stdout().lock())
-}
-
-/// Writes what the program prints for each folder of a folder to its file `expected`.
-fn watch_each(dir: &Path) -> io::Result<()> {
-    for entry in std::fs::read_dir(dir)? {
-        let folder = entry?.path();
-        if folder.is_dir() {
-            watch_to(Way::ByTables, &folder, std::fs::File::create(folder.join("expected"))?)?;
-        }
-    }
-    Ok(())
-}
-
-fn watch_to(way: Way, folder: &Path, to: impl Write) -> io::Result<()> {
-    let file = |name: &str| std::fs::read(folder.join(name)).unwrap_or_default();
-    let (events, pattern, log) = (file("events.csv"), file("pattern.txt"), file("log.csv"));
-    let mut out = io::BufWriter::new(to);
-    watch(way, &events, &pattern, &log, &mut out)?;
-    out.flush()
 }
