@@ -6,7 +6,7 @@
 
    What you owe, since nothing can check it: each pointer is aligned for its type, not null, and valid for its length, also where
    the length is 0; lengths count elements, not bytes, and no slice is longer than 2^63 - 1 bytes; what is lent to be written
-   overlaps nothing else that is lent, and no other thread touches it during the call; and the stack has room (docs/SPEED.md).
+   overlaps nothing else that is lent, and no other thread touches it during the call; and the stack has room (README.md).
 
    A part of a text is answered by its place: the bytes from `start` on, `size` of them. No header is included here. */
 #ifndef GORRINDATZ_H
