@@ -3,6 +3,9 @@
 // at most events are all; the pass here goes on where a row is dropped or reported. Its promise is stated by the definitions
 // of `keeping` and `writing`.
 // Interior: `applies` and `advance`, for a session that was judged.
+
+#![tactic(auto)]
+
 ghost use Rattle.std.specs.Prelude.{◌≡◌, not, ◌&&◌, drop, ltb};
 ghost use Rattle.document.specs.Tables.{seen_rows, report_room};
 ghost use Rattle.ordered.specs.Rows.{SeenInOrder};

@@ -1,6 +1,9 @@
 // A whole pattern text (document 01, "The pattern text"): `ere`, a colon, what the readers of `pattern` read, and the verdicts
 // asked for.
 // Interior: the crate `translate` reads a pattern with `parse`.
+
+#![tactic(auto)]
+
 ghost use Rattle.std.specs.Prelude.{◌≡◌, ◌≤◌};
 ghost use Rattle.document.specs.Limits.{most_events};
 ghost use Rattle.document.specs.Classes.{ere_word};

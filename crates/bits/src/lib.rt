@@ -1,5 +1,8 @@
 // Sets of numbers as the bits of a word: bit k says whether the set holds k (document 01, "The table"; the definition is
 // `holds`). Leaves that the table, the session check and the hopeful states share, and in specs/ the laws of `|`, `&` and one bit.
+
+#![tactic(auto)]
+
 ghost use Rattle.std.specs.Prelude.{◌≡◌, cond, ◌<◌, ◌^◌};
 ghost use Rattle.document.specs.Positions.{holds};
 ghost use Rattle.bits.specs.Bits.{meets};

@@ -1,5 +1,8 @@
 // One combination (document 01, "Words"): which of its numbers are bound, its restriction to some of them, and the row of a lent
 // table that one is read from. Interior.
+
+#![tactic(auto)]
+
 ghost use Rattle.std.specs.Prelude.{◌≡◌, not, cond, ◌+◌, ◌<◌, ◌≤◌, length, eqb};
 ghost use Rattle.document.specs.Limits.{width};
 ghost use Rattle.document.specs.Positions.{holds};

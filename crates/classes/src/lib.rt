@@ -1,5 +1,8 @@
 // The class of a byte, read from one table of 256 classes (document 01, "The declarations").
 // Whatever asks for a byte's class goes through it: names and tokens. (The crate `values` tells the digits of a value by range.)
+
+#![tactic(auto)]
+
 ghost use Rattle.std.specs.Prelude.{◌≡◌};
 ghost use Rattle.document.specs.Classes.{class_of, is_letter, is_blank, is_name_byte};
 

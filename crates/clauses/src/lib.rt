@@ -1,4 +1,7 @@
 // Clauses of the session check that one table answers by itself (document 01, "Numbers of refusal", 12). Above `combos` and `bound`.
+
+#![tactic(auto)]
+
 ghost use Rattle.std.specs.Prelude.{◌≡◌, ◌*◌, ◌≤◌, length};
 ghost use Rattle.document.specs.Lists.{every};
 ghost use Rattle.document.specs.Limits.{seen_stride};

@@ -1,5 +1,8 @@
 // Two combinations (document 01, "Words"), each WIDTH numbers by value: whether one includes the other, they are compatible, equal or
 // in order, and their join. Interior.
+
+#![tactic(auto)]
+
 ghost use Rattle.std.specs.Prelude.{◌≡◌, ◌||◌, cond, eqb};
 ghost use Rattle.document.specs.Lists.{equal};
 ghost use Rattle.document.specs.Limits.{width};

@@ -1,5 +1,8 @@
 // Bytes and whole numbers in decimal, written into lent bytes at a place; the place after them is given back.
 // Interior: the caller sees to the room.
+
+#![tactic(auto)]
+
 ghost use Rattle.std.specs.Prelude.{◌≡◌, [], ◌∷◌, ◌+◌, ◌≤◌, ◌<◌, length};
 ghost use Rattle.document.specs.Printing.{decimal};
 ghost use Rattle.decimals.specs.Written.{Written};

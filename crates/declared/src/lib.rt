@@ -2,6 +2,9 @@
 // texts (document 01, "The declarations", "Log rows and the run"). All of it is the face; it leans on `declaring`.
 //
 //     declarations(b"event,bay\r\nfeed,1\r\n") has 1 parameter and 1 event, whose set is 1; event_name gives its part `feed`.
+
+#![tactic(auto)]
+
 ghost use Rattle.std.specs.Prelude.{◌≡◌, ◌+◌};
 ghost use Rattle.document.specs.Refusals.{refusal_of};
 ghost use Rattle.document.specs.Declarations.{declarations, header, event_name, name_at};

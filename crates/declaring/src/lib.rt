@@ -1,4 +1,7 @@
 // Declarations read (document 01, "The declarations"): row by row, refusals 1 to 5 in the document's order. Above `rowrules`.
+
+#![tactic(auto)]
+
 ghost use Rattle.std.specs.Prelude.{◌≤◌, length};
 ghost use Rattle.readings.specs.Readings.{Reads, Placed, RowReads};
 

@@ -1,5 +1,8 @@
 // A row of a log: its event and values, or the refusal (document 01, "Log rows and the run"; refusals 18 to 21).
-// Interior: the calls of `log` and `printing` judge the declarations once, and `turns` reads each row with it.
+// Interior: the calls of `logs` and `printing` judge the declarations once, and `turns` reads each row with it.
+
+#![tactic(auto)]
+
 ghost use Rattle.std.specs.Prelude.{◌≡◌, ◌≤◌, replicate};
 ghost use Rattle.document.specs.Limits.{width, most_events};
 ghost use Rattle.document.specs.Log.{row_event};

@@ -13,7 +13,7 @@ pub record PartAt (lent : Bor (List ℕ)) (start : ℕ) (bytes : List ℕ) (r : 
 
 -- the same of the place alone
 abbrev pub Lies : Bor (List ℕ) → ℕ → Bor (List ℕ) → Type 0
-Lies lent start r = r.ptr ≡ (lent.ptr.0, start + lent.ptr.1)
+Lies lent start r = r.ref_ptr ≡ (lent.ref_ptr.0, start + lent.ref_ptr.1)
 
 -- the same told by numbers, as a host in C is told: where the part starts and how long it is; the bytes there are these
 pub record ToldAt (text : List ℕ) (start : ℕ) (bytes : List ℕ) (r : Told) : Type 0 where

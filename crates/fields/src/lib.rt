@@ -2,6 +2,9 @@
 // same bytes. `rowfields` counts a log row's commas in its pass for barred bytes. The face: `field`.
 //
 //     field(b"feed,1,7", 2) is the part `7` of the row; field(b"feed,1,7", 3) is the empty part at its start.
+
+#![tactic(auto)]
+
 ghost use Rattle.std.specs.Prelude.{◌≡◌, ◌+◌, ◌≤◌, ◌<◌, drop};
 ghost use Rattle.document.specs.Lists.{equal};
 ghost use Rattle.document.specs.Rows.{field};

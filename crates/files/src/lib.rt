@@ -4,6 +4,9 @@
 //     let mut text = [0u8; 4097];
 //     let count = files::read_whole(b"events.csv", &mut text);
 //     the file is the first count bytes of text; whoever lends a byte more than is taken sees that a file is too long.
+
+#![tactic(auto)]
+
 ghost use Rattle.std.specs.Prelude.{◌+◌, ◌≤◌, length};
 ghost use Rattle.io.specs.Counts.{IsPrefixLen};
 

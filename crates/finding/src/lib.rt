@@ -2,6 +2,9 @@
 // order of the refusals, and writes nothing. Above `judge` and `known`.
 //
 //     lookup(p, &seen, n, &kept, m, c) answers the kept state of the join of the seen bindings that c includes, and its verdict.
+
+#![tactic(auto)]
+
 ghost use Rattle.std.specs.Prelude.{◌≡◌, false};
 ghost use Rattle.document.specs.Tables.{kept_rows};
 ghost use Rattle.document.specs.Session.{lookup};

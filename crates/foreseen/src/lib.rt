@@ -1,6 +1,9 @@
 // What an event comes to before anything is written (document 01, "One event"): the rows of both tables after it, its reports,
 // and the refusal for want of room, 15 to 17. "Room freed by an event serves the same event". Above `moves`.
 // Interior: `foresee`, for a session that was judged.
+
+#![tactic(auto)]
+
 ghost use Rattle.std.specs.Prelude.{◌*◌, ◌<◌, ◌≡◌, drop};
 ghost use Rattle.document.specs.Limits.{width, kept_stride, most_states};
 ghost use Rattle.document.specs.Tables.{seen_rows, report_room};

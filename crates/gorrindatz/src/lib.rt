@@ -2,6 +2,9 @@
 // same contract. To C a slice is a pointer and a length, in elements; a combination is lent, and a part of a text is told by its
 // place. `rt staticlib gorrindatz` writes target/staticlib/libgorrindatz.a. No call has a `requires`; what the types say and a
 // host owes (pointers that are valid, aligned and not null, what is written overlapping nothing) stands in the header.
+
+#![tactic(auto)]
+
 ghost use Rattle.std.specs.Prelude.{◌≡◌, length};
 ghost use Rattle.document.specs.Refusals.{refusal_of};
 ghost use Rattle.document.specs.Classes.{class_of};
@@ -194,7 +197,7 @@ pub extern "C" fn gorrindatz_row<'a, 'b>(
 ) -> Answered
     ensures { Leaves (row declarations.now (meaning p) (session_of n m seen.old kept.old) reports.old bytes.now) (session_of n m seen.old kept.old) reports.old result seen.new kept.new reports.new }
 {
-    log::row(declarations, p, seen, n, kept, m, reports, bytes)
+    logs::row(declarations, p, seen, n, kept, m, reports, bytes)
 }
 
 #[unsafe(no_mangle)]
@@ -212,7 +215,7 @@ pub extern "C" fn gorrindatz_run<'a, 'b>(
 ) -> Ran
     ensures { RunLeaves (run declarations.now (meaning p) (session_of n m seen.old kept.old) reports.old log.now at budget) result seen.new kept.new reports.new }
 {
-    log::run(declarations, p, seen, n, kept, m, reports, log, at, budget)
+    logs::run(declarations, p, seen, n, kept, m, reports, log, at, budget)
 }
 
 #[unsafe(no_mangle)]

@@ -2,7 +2,7 @@
 -- it has read a phrase of the grammar, the judge goes on from there, and nothing that follows belongs to the phrase.
 -- Assumes nothing.
 use Rattle.std.specs.Prelude.{ℕ, ◌<◌, ◌≡◌, false, List, ◌++◌, length}
-use Rattle.std.proofs.lemmas.List.{map_append}
+use Rattle.std.proofs.lemmas.List.{map-append}
 use mathlib.Core.List as list
 use Rattle.document.specs.Classes as byte
 use Rattle.document.specs.Patterns.{Pattern}
@@ -16,7 +16,7 @@ abbrev pub tokens : List Lexeme → List Token
 tokens ls = list.map (λ x. x.token) ls
 
 pub tokens_append : (a b : List Lexeme) → tokens (a ++ b) ≡ tokens a ++ tokens b
-tokens_append a b = map_append (λ x. x.token) a b
+tokens_append a b = map-append (λ x. x.token) a b
 
 -- what cannot follow a phrase of the kind
 pub record EndsRepetition (left : List Lexeme) : Type 0 where

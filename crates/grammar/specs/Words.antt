@@ -17,6 +17,7 @@ place_in w (y ∷ l) h = go (decided (equal w y)) (place_in w l)
 
 pub in_place_lem : (w : List ℕ) (l : List (List ℕ)) → In w l → place_of w l < length l
 unfolding place_of
+in_place_lem w [] h = elim h [ ]
 in_place_lem w (y ∷ l) h = go (decided (equal w y)) h (in_place_lem w l)
   where
     go : (equal w y ≡ true) ⊎ (equal w y ≡ false) → (w ≡ y) ⊎ In w l → (In w l → place_of w l < length l) → place_of w (y ∷ l) < suc (length l)

@@ -1,5 +1,8 @@
 // Draws the state graph of a pattern as Graphviz text (docs/GRAPH.md). It reads `events.csv` and `pattern.txt` in the folder
 // where it runs; the table is that of the proved `translate`, and its hopeful states are those of the proved `hopeful`.
+
+#![tactic(auto)]
+
 use draw::{print_graph, print_refusal};
 
 mod draw;

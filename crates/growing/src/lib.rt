@@ -1,5 +1,8 @@
 // The states of a pattern, grown (document 01, "The table"): sets of the numbers at which a reading can have stopped, numbered as
 // found. Above `nexts`.
+
+#![tactic(auto)]
+
 ghost use Rattle.std.specs.Prelude.{◌≡◌, cond, ◌+◌, ◌*◌, ◌≤◌, ◌<◌, length, take, ltb};
 ghost use Rattle.document.specs.Limits.{most_events, most_states};
 ghost use Rattle.document.specs.States.{state_of};

@@ -1,5 +1,8 @@
 // The first line that the watch program prints (document 01, "The program and its example"). The caller sees to the room, by
 // lending `MOST_HEADING` bytes.
+
+#![tactic(auto)]
+
 ghost use Rattle.std.specs.Prelude.{◌≡◌, ◌+◌, ◌≤◌, length};
 ghost use Rattle.document.specs.Refusals.{refusal_of};
 ghost use Rattle.document.specs.Declarations.{declarations};

@@ -1,6 +1,9 @@
 // The hopeful states of a property table (document 01, "The table"), as bits. Above `bits` and `property`. The face: `check`.
 //
 //     Of any table that is taken: `hopeful(p)` has bit s where one or more events lead from s to a verdict asked for.
+
+#![tactic(auto)]
+
 ghost use Rattle.std.specs.Prelude.{◌≡◌, true, ◌≤◌, ◌<◌};
 ghost use Rattle.document.specs.Limits.{most_states};
 ghost use Rattle.document.specs.Property.{in_range, asks_for};

@@ -2,6 +2,9 @@
 // as long as none of them is dropped or reported. That is all of them at most events. Only rows that may include it are looked
 // at: rows ascend, so those that begin with its first number stand together.
 // Interior: `move_in_place`, for a session that was judged. What it leaves over is `advance`'s.
+
+#![tactic(auto)]
+
 ghost use Rattle.spans.specs.Spans.{Movable, Spans};
 ghost use Rattle.inplace.specs.InPlace.{WalksTo, MovedInPlace};
 

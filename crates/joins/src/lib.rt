@@ -1,5 +1,8 @@
 // The join of the seen rows that a combination includes (document 01, "One event"): looked up by the combination's restrictions,
 // and whether it is a given one. It compares in place and alters nothing. Above `combos`.
+
+#![tactic(auto)]
+
 ghost use Rattle.std.specs.Prelude.{◌≡◌};
 ghost use Rattle.document.specs.Lists.{equal};
 ghost use Rattle.document.specs.Limits.{width};

@@ -1,5 +1,8 @@
 // The session check, refusal 12 (document 01, "Numbers of refusal"), alone. It compares in place and alters nothing. Above
 // `joins`, `rooms` and `clauses`.
+
+#![tactic(auto)]
+
 ghost use Rattle.std.specs.Prelude.{◌≡◌, ◌*◌, ◌≤◌, length};
 ghost use Rattle.document.specs.Lists.{every};
 ghost use Rattle.document.specs.Limits.{kept_stride, most_states};

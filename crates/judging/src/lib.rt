@@ -1,6 +1,9 @@
 // What row and run judge before they take a row (document 01, "Numbers of refusal"): the declarations (1 to 5), the table (11),
 // whether the two agree (25), the session (12). Interior: once per call, whatever the number of rows. Above `declaring`, `known`
 // and `judge`.
+
+#![tactic(auto)]
+
 ghost use Rattle.std.specs.Prelude.{◌≡◌, ◌≤◌};
 ghost use Rattle.document.specs.Limits.{most_events};
 ghost use Rattle.property.specs.Meaning.{meaning};

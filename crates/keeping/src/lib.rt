@@ -1,6 +1,9 @@
 // The tables after an event, in place (document 01, "One event"): the kept rows that stay, that move and that are created, and
 // the binding as seen. Above `moves` and `tables`.
 // Interior: `keep_rows` and `see`, where there is room for the outcome.
+
+#![tactic(auto)]
+
 ghost use Rattle.std.specs.Prelude.{◌≡◌};
 ghost use Rattle.document.specs.Limits.{width};
 ghost use Rattle.document.specs.OneEvent.{see, kept_after};

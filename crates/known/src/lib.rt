@@ -1,5 +1,8 @@
 // What is worked out once of a property that is taken: its counts, its hopeful states and those whose verdict is asked for
 // (document 01, "The table"). Above `property` and `moves`.
+
+#![tactic(auto)]
+
 ghost use Rattle.std.specs.Prelude.{◌≡◌, true};
 ghost use Rattle.document.specs.Property.{in_range};
 ghost use Rattle.property.specs.Meaning.{meaning};

@@ -2,6 +2,8 @@
 // crates/document/specs/Limits.antt. Document 02 changes some of them. A number that differs from its definition leaves the crates
 // that name it unproved. Limits that one crate alone names stand in that crate.
 
+#![tactic(auto)]
+
 // Numbers of a combination, one a parameter ("Words").
 pub const WIDTH: usize = 4;
 

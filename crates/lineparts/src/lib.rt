@@ -1,5 +1,8 @@
 // The parts of the lines that the watch program prints (document 01, "The program and its example"). Interior: a part is written
 // at a place of the caller's text, and the place after it is given back. It leans on `decimals`.
+
+#![tactic(auto)]
+
 ghost use Rattle.std.specs.Prelude.{[], ◌∷◌, ◌+◌, ◌≤◌, length, take, drop, replicate};
 ghost use Rattle.document.specs.Limits.{width};
 ghost use Rattle.document.specs.Classes.{comma};

@@ -3,6 +3,9 @@
 // room, by `lines_fit`, or by lending `MOST_REFUSAL` bytes. It leans on `lineparts`.
 //
 //     put_reports(text, at, 2, 7, [5, 0, 0, 0, 1], 1) writes `7,match,5,` and a line end at the place `at`.
+
+#![tactic(auto)]
+
 ghost use Rattle.std.specs.Prelude.{◌≡◌, ◌++◌, ◌+◌, ◌*◌, ◌≤◌, length, take, drop, leb};
 ghost use Rattle.document.specs.Limits.{width, report_stride};
 ghost use Rattle.document.specs.Printing.{line_end, report_line, report_lines};

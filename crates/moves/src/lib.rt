@@ -1,6 +1,9 @@
 // Which kept rows move at an event, and where to (document 01, "One event"): "If the join of all seen bindings that c includes,
 // before this event, is exactly k, then c moves from k's state by the event". Above `joins` and `tables`.
 // Interior: the event is worked out and written down with it.
+
+#![tactic(auto)]
+
 ghost use Rattle.std.specs.Prelude.{◌<◌, ◌≤◌, ◌≡◌, false};
 ghost use Rattle.document.specs.Limits.{most_events, most_states};
 ghost use Rattle.document.specs.Positions.{holds};

@@ -1,5 +1,8 @@
 // Names and marks (document 01, "The declarations"): where name bytes end, what makes a name or a mark, and the same of all
 // fields of a declarations row that is split. It leans on `fields` and `classes`.
+
+#![tactic(auto)]
+
 ghost use Rattle.std.specs.Prelude.{◌≡◌, cond, [], ◌∷◌, ◌+◌, ◌≤◌, ◌<◌, length, drop};
 ghost use Rattle.document.specs.Lists.{every, equal, among, repeated, take_while};
 ghost use Rattle.document.specs.Classes.{is_name_byte, one_byte};

@@ -1,4 +1,7 @@
 // What can come next (document 01, "The table"): the sets of numbers that the events lead to from a set. Above `sets`.
+
+#![tactic(auto)]
+
 ghost use Rattle.std.specs.Prelude.{◌≡◌, suc};
 ghost use Rattle.document.specs.Limits.{most_names};
 ghost use Rattle.nexts.specs.Nexts.{nexts_of, moves_of};

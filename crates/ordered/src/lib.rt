@@ -1,5 +1,8 @@
 // Rows of combinations in order, in lent tables (document 01, "One event"): a table is the caller's numbers, row after row. Where
 // a combination stands among rows, and rows put in, written and cleared. Interior.
+
+#![tactic(auto)]
+
 ghost use Rattle.std.specs.Prelude.{◌≡◌, ◌+◌, ◌<◌, ◌≤◌, length};
 ghost use Rattle.document.specs.Lists.{among};
 ghost use Rattle.document.specs.Limits.{width, seen_stride, kept_stride};

@@ -1,4 +1,7 @@
 // What the program writes: lines that stand in a text, to standard output.
+
+#![tactic(auto)]
+
 ghost use Rattle.std.specs.Prelude.{◌≤◌, length};
 ghost use Rattle.lineparts.specs.Lines.{most_refusal, most_heading};
 

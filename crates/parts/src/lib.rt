@@ -2,6 +2,9 @@
 // other reader: an event name or `epsilon`, the marks after an atom, two parts made one.
 // A part holds the shape of what was read and the place of the next token, or a refusal and its place. Places are always those
 // of a token, or the text's end: `tokens::look` passes the blanks.
+
+#![tactic(auto)]
+
 ghost use Rattle.std.specs.Prelude.{◌≡◌};
 ghost use Rattle.document.specs.Reading.{read_atom};
 ghost use Rattle.places.specs.NamesAt.{names_at};

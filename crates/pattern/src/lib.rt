@@ -1,5 +1,8 @@
 // A pattern (document 01, "The pattern text"): four readers that call each other. A reader answers a `Part`. It is lent the text of
 // the declarations as `events`; `starts`, `sizes` and `count` say where its event names stand.
+
+#![tactic(auto)]
+
 ghost use Rattle.document.specs.Reading.{read_alternative, read_sequence, read_repetition, read_atom};
 ghost use Rattle.places.specs.NamesAt.{names_at};
 ghost use Rattle.parts.specs.Parts.{Ready, Answers};

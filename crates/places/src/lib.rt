@@ -1,5 +1,8 @@
 // Names that stand at places of a text: where one of them stands among the others. For the names of declared events, which a
 // reading holds by their places.
+
+#![tactic(auto)]
+
 ghost use Rattle.std.specs.Prelude.{◌≡◌, ◌≤◌};
 ghost use Rattle.document.specs.Lists.{place_of};
 ghost use Rattle.document.specs.Limits.{most_events};

@@ -5,6 +5,9 @@
 // text away and calls again with the offset, the row number and the counts answered. It leans on `printrow`.
 //
 //     print(declarations, p, &mut seen, n, &mut kept, m, &mut reports, log, at, 1, &mut text) prints the rows from `at` on.
+
+#![tactic(auto)]
+
 ghost use Rattle.std.specs.Prelude.{◌≡◌, true, length};
 ghost use Rattle.document.specs.Refusals.{refusal_of};
 ghost use Rattle.document.specs.Session.{sound};

@@ -1,5 +1,8 @@
 // A log of any length, printed (document 01, "The program and its example"): window by window of the log's buffer, each by
 // `printing::print`, to standard output. For the watch program alone. Above `window`, `printing` and `output`.
+
+#![tactic(auto)]
+
 ghost use Rattle.std.specs.Prelude.{◌≤◌, ◌≡◌, length};
 ghost use Rattle.lineparts.specs.Lines.{most_heading};
 

@@ -1,5 +1,8 @@
 // One row of a log printed (document 01, "The program and its example"): into a session that was judged, and its lines where those
 // before it end. Interior: for `printing`. It leans on `turns` and `rowlines`.
+
+#![tactic(auto)]
+
 ghost use Rattle.std.specs.Prelude.{◌≡◌};
 ghost use Rattle.document.specs.Log.{row_at};
 ghost use Rattle.judge.specs.Sound.{session_of};

@@ -1,6 +1,9 @@
 // The property table as a plain value, and its check, refusal 11 (document 01, "The table"). The face: `Property` and `in_range`.
 //
 //     A table is taken exactly if `in_range` holds of it; its numbers may be any.
+
+#![tactic(auto)]
+
 ghost use Rattle.std.specs.Prelude.{◌≡◌, ◌&&◌, ◌≤◌, ◌<◌, leb};
 ghost use Rattle.document.specs.Limits.{width, most_events, most_states};
 ghost use Rattle.document.specs.Property.{in_range};

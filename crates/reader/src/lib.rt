@@ -4,6 +4,9 @@
 //
 //     let mut r = reader_at(b"a,1\r\nb,2", 0);
 //     hand_out(&mut r) is the row `a,1`, then `b,2`, then none.
+
+#![tactic(auto)]
+
 ghost use Rattle.std.specs.Prelude.{◌≡◌, ◌-◌, take, drop};
 ghost use Rattle.fields.specs.Places.{PartAt, Lies, place_from};
 ghost use Rattle.reader.specs.Handing.{place_at, HandsOut};

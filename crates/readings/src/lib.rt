@@ -1,5 +1,8 @@
 // What declarations say (document 01, "The declarations"), as the crates above hold it: counts, sets, and where each event's name
 // stands in the text, to be looked up by `places`. It is read by `declaring`.
+
+#![tactic(auto)]
+
 ghost use Rattle.std.specs.Prelude.{◌≡◌, ◌<◌};
 ghost use Rattle.document.specs.Limits.{most_events};
 ghost use Rattle.readings.specs.Readings.{none_read, one_more};

@@ -1,6 +1,8 @@
 // The numbers of refusal (document 01, "Numbers of refusal"): one name each, those of crates/document/specs/Refusals.antt.
 // No code compares with a bare number.
 
+#![tactic(auto)]
+
 // Nothing is refused.
 pub const TAKEN: u8 = 0;
 

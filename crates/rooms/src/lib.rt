@@ -1,4 +1,7 @@
 // The rooms of lent tables (document 01, "One event").
+
+#![tactic(auto)]
+
 ghost use Rattle.std.specs.Prelude.{◌≡◌, ◌*◌, ◌≤◌, length};
 ghost use Rattle.document.specs.Limits.{seen_stride, kept_stride};
 ghost use Rattle.document.specs.Tables.{seen_room, kept_room};

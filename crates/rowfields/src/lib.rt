@@ -1,4 +1,7 @@
 // What the fields of a log row say (document 01, "Log rows and the run"): how many there are, and their values. Interior.
+
+#![tactic(auto)]
+
 ghost use Rattle.std.specs.Prelude.{◌≡◌, cond, ◌+◌, ◌≤◌, length, drop};
 ghost use Rattle.document.specs.Lists.{some};
 ghost use Rattle.document.specs.Limits.{width};

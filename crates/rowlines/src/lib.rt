@@ -1,5 +1,8 @@
 // The lines of one row (document 01, "The program and its example"): whether they are sure to fit, and writing them by what the
 // row's step answered. Interior, for `printing`.
+
+#![tactic(auto)]
+
 ghost use Rattle.std.specs.Prelude.{◌≡◌, length};
 ghost use Rattle.decimals.specs.Written.{Written};
 ghost use Rattle.rowlines.specs.RowLines.{most_lines, fits_row, answer_text, TextFits};

@@ -1,5 +1,8 @@
 // What a row of declarations must be (document 01, "The declarations"): the header's refusal, and an event's after those read so
 // far, 5, 2, 3, 4 in this order.
+
+#![tactic(auto)]
+
 ghost use Rattle.std.specs.Prelude.{◌≡◌};
 ghost use Rattle.document.specs.Refusals.{refusal_of};
 ghost use Rattle.document.specs.Declarations.{header_row, event_row};

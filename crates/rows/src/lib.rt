@@ -1,5 +1,8 @@
 // Rows of a text (document 01, "The declarations", "Log rows and the run"): where a row ends is said here alone. `window` looks
 // for the last line end that it holds.
+
+#![tactic(auto)]
+
 ghost use Rattle.std.specs.Prelude.{◌≡◌, ◌+◌, ◌<◌, length, get_or, drop};
 ghost use Rattle.document.specs.Rows.{ends_row, first_row, stray};
 ghost use Rattle.document.specs.Log.{next_at};

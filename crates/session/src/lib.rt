@@ -3,6 +3,9 @@
 // started by `starting`, and looked into by `finding`.
 //
 //     event(p, &mut seen, n, &mut kept, m, &mut reports, e, values) answers the counts after the event, and its reports.
+
+#![tactic(auto)]
+
 ghost use Rattle.std.specs.Prelude.{◌≡◌};
 ghost use Rattle.document.specs.Session.{event};
 ghost use Rattle.property.specs.Meaning.{meaning};

@@ -2,6 +2,9 @@
 // holds k. What a part of a pattern carries while it is read: whether the empty word is one of its words, the numbers at which
 // a word can begin and end, those that can come next after each number, and those that name each event.
 // Interior: the readers of the crate `pattern` build a pattern's shape with it, and `growing` goes through its sets.
+
+#![tactic(auto)]
+
 ghost use Rattle.std.specs.Prelude.{◌≡◌, cond, ◌||◌, ◌&&◌, suc, ◌≤◌, ◌<◌};
 ghost use Rattle.document.specs.Patterns.{epsilon, name};
 ghost use Rattle.document.specs.Limits.{most_names, most_events};

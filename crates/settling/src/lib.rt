@@ -1,6 +1,9 @@
 // One kept row of a pass over them (document 01, "One event", where the binding is empty or seen already): whether it includes
 // the binding, its report, and where it is written; and the rows after the last of the pass, moved down.
 // Interior, for `advance`.
+
+#![tactic(auto)]
+
 ghost use Rattle.std.specs.Prelude.{◌+◌, ◌*◌, ◌<◌, ◌≤◌, ◌≡◌, not, ◌&&◌, length, get_or, eqb};
 ghost use Rattle.document.specs.Limits.{width, kept_stride, most_states};
 ghost use Rattle.document.specs.Combinations.{includes};

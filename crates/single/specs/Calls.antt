@@ -32,8 +32,8 @@ use Rattle.starting.proofs.start.Reads as start
 use Rattle.session.proofs.event.Reads as event
 use Rattle.finding.proofs.lookup.Reads as lookup
 use Rattle.turns.specs.declared.Ran.{Ran}
-use Rattle.log.proofs.row.Reads as row
-use Rattle.log.proofs.run.Reads as run
+use Rattle.logs.proofs.row.Reads as row
+use Rattle.logs.proofs.run.Reads as run
 use Rattle.fields.specs.Places.{Lies, place_from}
 use Rattle.fields.specs.declared.Part.{Part}
 use Rattle.fields.proofs.field.Reads as field
@@ -282,7 +282,7 @@ module _ (reader : Bor Reader) where
       let log = reader.now.log in (
         z.0,
         z.1.0,
-        x.2 ∙ ap (λ (b : List ℕ). (log.ptr.0, place_from reader.now.at b + log.ptr.1)) z.1.0 ∙ sym y.2,
+        x.2 ∙ ap (λ (b : List ℕ). (log.ref_ptr.0, place_from reader.now.at b + log.ref_ptr.1)) z.1.0 ∙ sym y.2,
         λ i. record { log = (x.0 ∙ sym y.0) i; at = z.1.1 i },
       )
 

@@ -1,5 +1,8 @@
 // Which kept rows may include a binding (document 01, "One event"): rows ascend, so those that begin with its first number stand
 // together; among them those that have its last number are looked for, and compared in between. Interior: for `inplace`.
+
+#![tactic(auto)]
+
 ghost use Rattle.std.specs.Prelude.{◌+◌, ◌*◌, ◌<◌, ◌≤◌, length};
 ghost use Rattle.document.specs.Limits.{width, kept_stride};
 ghost use Rattle.spans.specs.Spans.{Rising, Begins, Ends, LastBound, Agrees, NextFound};

@@ -2,6 +2,9 @@
 // leaves every lent number as it was.
 //
 //     start(p, &mut seen, &mut kept) answers the counts of a fresh session, 0 seen rows and 0 or 1 kept rows.
+
+#![tactic(auto)]
+
 ghost use Rattle.document.specs.Session.{start};
 ghost use Rattle.property.specs.Meaning.{meaning};
 ghost use Rattle.starting.specs.Starts.{StartLeaves};

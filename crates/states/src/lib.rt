@@ -2,6 +2,9 @@
 // `sets` and `growing`. Interior: `table_of` is what a translator calls.
 //
 //     table_of(shape, events, TOTAL) is the table over so many events, or says that there are more than 64 states.
+
+#![tactic(auto)]
+
 ghost use Rattle.std.specs.Prelude.{◌≡◌, ◌≤◌};
 ghost use Rattle.document.specs.Limits.{most_events, most_states};
 ghost use Rattle.states.specs.Tabling.{verdict_from, verdicts_from, Tabled};

@@ -1,5 +1,8 @@
 // One event in a session that was judged (document 01, "One event"): in one pass where it creates nothing, else worked out and
 // then written down. Interior: for the calls of a session and for a run. Above `foreseen`, `writing` and `advance`.
+
+#![tactic(auto)]
+
 ghost use Rattle.std.specs.Prelude.{◌≡◌};
 ghost use Rattle.judge.specs.Sound.{session_of};
 ghost use Rattle.moves.specs.Ready.{Steady};

@@ -1,5 +1,8 @@
 // Tokens of a pattern text (document 01, "The pattern text"): what stands at a place, and where it ends.
 // Interior: the readers of the crate `pattern` go from token to token with it.
+
+#![tactic(auto)]
+
 ghost use Rattle.std.specs.Prelude.{◌≡◌, ◌+◌, ◌≤◌, length, drop};
 ghost use Rattle.document.specs.Lists.{starts_with, take_while};
 ghost use Rattle.document.specs.Classes.{is_blank};

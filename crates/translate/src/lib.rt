@@ -4,6 +4,9 @@
 //
 //     With the events mix, feed and drain declared, the pattern `ere : mix feed+ drain @match` gives a table of 5 states;
 //     `ere : mix feed+ (drain @match` is refused 6 at offset 23, the place of `@match`.
+
+#![tactic(auto)]
+
 ghost use Rattle.std.specs.Prelude.{◌≡◌, ◌≤◌};
 ghost use Rattle.document.specs.Limits.{most_events};
 ghost use Rattle.document.specs.Translate.{translate};

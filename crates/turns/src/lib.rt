@@ -1,6 +1,9 @@
 // One row of a log into a session that was judged (document 01, "Log rows and the run"): the row as it is read, its event
 // stepped; and one row more of a run, which says where the next one begins.
 // Interior: `step_row` for whoever takes rows one by one and has judged once, `take_row` for the run.
+
+#![tactic(auto)]
+
 ghost use Rattle.std.specs.Prelude.{◌≡◌};
 ghost use Rattle.judge.specs.Sound.{session_of};
 ghost use Rattle.steps.specs.Steps.{Leaves};

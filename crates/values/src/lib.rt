@@ -1,6 +1,9 @@
 // The value that a field of a log row says (document 01, "Log rows and the run").
 //
 //     value_of(b"17") is 17; value_of(b"017"), value_of(b"0") and value_of(b"4294967296") are 0: none of them says a value.
+
+#![tactic(auto)]
+
 ghost use Rattle.std.specs.Prelude.{◌≡◌};
 ghost use Rattle.document.specs.Rows.{value_of};
 

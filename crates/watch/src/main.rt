@@ -1,6 +1,9 @@
 // The watch program (document 01, "The program and its example"): reads `events.csv`, `pattern.txt` and `log.csv` in the folder
 // where it runs, and prints the reports of the log's rows. Thin over the library: `translate::translate`, `declared::header`,
 // `starting::start` and `printing::print` do the work, the last two by way of `printlog`; here are the files and the buffers.
+
+#![tactic(auto)]
+
 ghost use Rattle.std.specs.Prelude.{◌≤◌, length};
 ghost use Rattle.lineparts.specs.Lines.{most_refusal, most_heading};
 

@@ -1,5 +1,8 @@
 // The log as it is read: one buffer, of which a part is held and not yet printed. How a log may be cut into such parts is proved
 // in crates/rows/specs/BuffersOfRows.antt and crates/runs/specs/PrintBuffers.antt; the names of their laws stand beside the code.
+
+#![tactic(auto)]
+
 ghost use Rattle.std.specs.Prelude.{◌+◌, ◌≤◌, length, ◌≡◌};
 
 const CR: u8 = 13;

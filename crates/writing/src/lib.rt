@@ -1,6 +1,9 @@
 // An event's outcome written down (document 01, "One event"): the reports in the order of combinations, then both tables. Above
 // `foreseen` and `keeping`.
 // Interior: `write_down`, for an outcome that was foreseen and for which there is room.
+
+#![tactic(auto)]
+
 ghost use Rattle.writing.specs.Writing.{ReportReady, ReportedRow, Reportable, Reported, Tellable, Tells, WrittenDown};
 
 use foreseen::Foreseen;

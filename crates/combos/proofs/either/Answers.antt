@@ -1,0 +1,10 @@
+-- `combos::either` meets its contract: the first where it is bound, else the second.
+-- Assumes nothing.
+use borrow.Author.Tests.{eq-eqb, ne_eqb}
+use Rattle.combos.proofs.either.Goals as goal
+
+pub returns-then-x-eq0 : goal.returns-then-x-eq0
+returns-then-x-eq0 c = rw (eq-eqb _ _ c.if-x-eq0.true)
+
+pub returns : goal.returns
+returns c = rw (ne_eqb _ _ c.if-x-eq0.false)

@@ -1,0 +1,12 @@
+-- What the loops of `nexts::moves` keep, and why they end.
+use Rattle.sets.specs.ShapesLaws.{Filled}
+use mathlib.Core.Path.{◌≡◌}
+use Prim.Native.Nat.{◌-◌}
+use Rattle.nexts.specs.Nexts.{nexts_of, move_of}
+use Rattle.nexts.proofs.moves.Given as goal
+
+abbrev pub invariant-loop-e : goal.invariant-loop-e
+invariant-loop-e l = (l.reach ≡ nexts_of l.after l.set 32) × Filled 16 (move_of l.after l.named l.base l.set) l.to l.e
+
+abbrev pub decreases-loop-e : goal.decreases-loop-e
+decreases-loop-e l = 16 - l.e

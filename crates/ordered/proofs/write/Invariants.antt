@@ -1,0 +1,13 @@
+-- What the loops of `ordered::write` keep, and why they end.
+use lib.ListN.{length}
+use Rattle.document.specs.Limits.{width}
+use Rattle.ordered.specs.Writes.{Pasted}
+use Prim.Native.Nat.{◌≤◌, ◌+◌, ◌-◌}
+use mathlib.Core.Path.{◌≡◌}
+use Rattle.ordered.proofs.write.Given as goal
+
+abbrev pub invariant-loop-j : goal.invariant-loop-j
+invariant-loop-j l = (l.j ≤ width) × (l.c + width ≤ length l.t) × (length l.t ≡ length l.at) × (length l.initial.t ≡ width) × Pasted l.j l.c l.initial.t l.at l.t
+
+abbrev pub decreases-loop-j : goal.decreases-loop-j
+decreases-loop-j l = width - l.j
