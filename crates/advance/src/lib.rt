@@ -17,7 +17,7 @@ use moves::Known;
 
 // Where a pass over the kept rows ended: the row that it stopped before, how many of the rows before that are left, and the
 // reports made.
-#[derive(Drop)]
+#[derive(Clone, Copy)]
 pub struct Passed {
     pub row: usize,
     pub left: usize,
@@ -25,7 +25,7 @@ pub struct Passed {
 }
 
 // The kept rows after the event, and its reports.
-#[derive(Drop)]
+#[derive(Clone, Copy)]
 pub struct Advanced {
     pub kept: usize,
     pub reported: usize,

@@ -27,7 +27,7 @@ const FAIL_ASKED: u8 = 2;
 const BOTH_ASKED: u8 = 3;
 
 // What a pattern text says: a refusal's number and its offset; or the verdicts asked for and the shape of the pattern.
-#[derive(Drop)]
+#[derive(Clone, Copy)]
 pub struct Parsed {
     pub refusal: u8,
     pub at: usize,

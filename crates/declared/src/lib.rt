@@ -16,7 +16,7 @@ use limits::{EventSets, MOST_EVENTS};
 
 // What declarations say: a refusal's number and nothing else, or the counts, and for each event the set of its parameters.
 #[repr(C)]
-#[derive(Drop)]
+#[derive(Clone, Copy)]
 pub struct Declared {
     pub refusal: u8,
     pub parameters: usize,

@@ -14,7 +14,7 @@ use limits::{Combination, EventSets, Places, WIDTH};
 pub const ROW_BYTES: usize = 128;
 
 // A row's event and values; or the number of its refusal, and zeros.
-#[derive(Drop)]
+#[derive(Clone, Copy)]
 pub struct Entry {
     pub refusal: u8,
     pub event: usize,

@@ -48,7 +48,7 @@ pub fn field_end(row: &[u8], start: usize) -> usize
 
 // A part of a text, told by numbers: where it starts and how long it is.
 #[repr(C)]
-#[derive(Drop)]
+#[derive(Clone, Copy)]
 pub struct Part {
     pub start: usize,
     pub size: usize,
@@ -85,7 +85,7 @@ pub fn field(row: &[u8], number: usize) -> &[u8]
 
 // The fields of a row: how many there are, counted no further than one past what a row can have, and where those that it
 // can have start and how long they are.
-#[derive(Drop)]
+#[derive(Clone, Copy)]
 pub struct Fields {
     pub count: usize,
     pub starts: [usize; MOST_FIELDS],

@@ -11,7 +11,7 @@ ghost use Rattle.std.specs.Prelude.{◌+◌, ◌≤◌, length};
 ghost use Rattle.io.specs.Counts.{IsPrefixLen};
 
 // How far a slice is filled, from its start; whether no more will come; and whether that is because a read failed.
-#[derive(Drop)]
+#[derive(Clone, Copy)]
 pub struct Filled {
     pub held: usize,
     pub ended: bool,
@@ -19,7 +19,7 @@ pub struct Filled {
 }
 
 // What one read brought: so many bytes, none at the file's end, or a failure.
-#[derive(Drop)]
+#[derive(Clone, Copy)]
 struct Came {
     count: usize,
     failed: bool,

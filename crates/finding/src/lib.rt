@@ -17,7 +17,7 @@ use property::Property;
 
 // What lookup answers: the number of refusal, or 0; whether the combination's join is kept; and its state and verdict.
 #[repr(C)]
-#[derive(Drop)]
+#[derive(Clone, Copy)]
 pub struct Looked {
     pub refusal: u8,
     pub held: bool,

@@ -16,14 +16,14 @@ use limits::{Combination, KEPT_STRIDE, Transitions, WIDTH};
 use moves::Known;
 
 // What a kept row adds to the kept rows after an event, and to its reports.
-#[derive(Drop)]
+#[derive(Clone, Copy)]
 pub struct Weight {
     pub kept: usize,
     pub reported: usize,
 }
 
 // Rows that there is room for.
-#[derive(Drop)]
+#[derive(Clone, Copy)]
 pub struct Rooms {
     pub seen: usize,
     pub kept: usize,
@@ -32,7 +32,7 @@ pub struct Rooms {
 
 // What an event comes to: the refusal for want of room, or 0; the rows of both tables after it; its reports; and whether its
 // binding is neither empty nor seen.
-#[derive(Drop)]
+#[derive(Clone, Copy)]
 pub struct Foreseen {
     pub refusal: u8,
     pub seen: usize,

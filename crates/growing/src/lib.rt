@@ -15,7 +15,7 @@ const START: u32 = 1;
 
 // The sets found, so many of them, and for each the states that the events lead to, 16 places a state. A count past 64 says
 // that there are more than 64 states, and nothing else.
-#[derive(Drop)]
+#[derive(Clone, Copy)]
 pub struct Grown {
     pub count: usize,
     pub sets: [u32; MOST_STATES],

@@ -133,7 +133,7 @@ pub fn hopeful(p: property::Property) -> u64
 
 // What the check of a property table says: 11, or 0 and the hopeful states as bits.
 #[repr(C)]
-#[derive(Drop)]
+#[derive(Clone, Copy)]
 pub struct Checked {
     pub refusal: u8,
     pub hopeful: u64,

@@ -13,7 +13,7 @@ use moves::Known;
 
 // The row before which the moves stopped, and the row from which on none includes the binding. Where they are the same, all is
 // done.
-#[derive(Drop)]
+#[derive(Clone, Copy)]
 pub struct InPlace {
     pub row: usize,
     pub end: usize,

@@ -17,7 +17,7 @@ use readings::Reading;
 
 // What is judged once per call: the number of refusal, or 0, and then what the declarations say and what is known of the
 // table.
-#[derive(Drop)]
+#[derive(Clone, Copy)]
 pub struct Judged {
     pub refusal: u8,
     pub reading: Reading,

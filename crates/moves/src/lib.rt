@@ -17,7 +17,7 @@ use limits::{Combination, MOST_EVENTS, Transitions};
 
 // What is worked out once for a property and then used at each event: its counts, and its hopeful states and those whose
 // verdict is asked for, as bits.
-#[derive(Drop)]
+#[derive(Clone, Copy)]
 pub struct Known {
     pub parameters: usize,
     pub states: usize,

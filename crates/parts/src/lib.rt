@@ -20,7 +20,7 @@ pub const MOST_NAMES: usize = 31;
 
 // What a reader answers: a refusal's number and its place; or the place of the next token, how many event names were read up
 // to there, and the shape of what was read.
-#[derive(Drop)]
+#[derive(Clone, Copy)]
 pub struct Part {
     pub refusal: u8,
     pub at: usize,

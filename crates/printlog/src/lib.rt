@@ -10,7 +10,7 @@ use property::Property;
 use window::Window;
 
 // How far the log is printed: the number of the next row, the rows of both tables that count, and whether all went well.
-#[derive(Drop)]
+#[derive(Clone, Copy)]
 struct Course {
     number: usize,
     seen: usize,
@@ -81,7 +81,7 @@ fn print_rows(
 }
 
 // The window of a log, and how far it is printed.
-#[derive(Drop)]
+#[derive(Clone, Copy)]
 struct Step {
     window: Window,
     course: Course,

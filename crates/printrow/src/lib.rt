@@ -16,7 +16,7 @@ use moves::Known;
 // What printing answers: the number of refusal, or 0; the offset and the number of the row that comes next; the rows of both
 // tables that count now; and the bytes of the text that are filled.
 #[repr(C)]
-#[derive(Drop)]
+#[derive(Clone, Copy)]
 pub struct Printed {
     pub refusal: u8,
     pub next: usize,

@@ -19,7 +19,7 @@ const ALL_VERDICTS: usize = 3;
 // Counts, the parameters that each event binds (bit k for parameter k), the state that event e leads to from state s (at
 // s * 16 + e), the verdict of each state, and the verdicts asked for. Entries past the counts mean nothing.
 #[repr(C)]
-#[derive(Drop)]
+#[derive(Clone, Copy)]
 pub struct Property {
     pub parameters: usize,
     pub events: usize,

@@ -28,7 +28,7 @@ pub struct Row<'a> {
 
 // Whether a row begins at a place of a log, where it ends, and where the one after it begins.
 #[repr(C)]
-#[derive(Drop)]
+#[derive(Clone, Copy)]
 pub struct Place {
     pub there: bool,
     pub end: usize,

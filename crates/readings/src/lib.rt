@@ -11,7 +11,7 @@ use limits::{EventSets, MOST_EVENTS, Places};
 
 // What declarations say: a refusal's number and nothing else, or the counts, for each event the set of its parameters, and where
 // its name stands in the text.
-#[derive(Drop)]
+#[derive(Clone, Copy)]
 pub struct Reading {
     pub refusal: u8,
     pub parameters: usize,

@@ -23,14 +23,14 @@ const COMMA: u8 = 44;
 const ZERO: u8 = 48;
 
 // The value of a field, 0 where it is empty; or that it is neither empty nor a value.
-#[derive(Drop)]
+#[derive(Clone, Copy)]
 pub struct Value {
     pub bad: bool,
     pub value: u32,
 }
 
 // The values of a row's fields; or that one of them is neither empty nor a value.
-#[derive(Drop)]
+#[derive(Clone, Copy)]
 pub struct Values {
     pub bad: bool,
     pub values: Combination,

@@ -14,7 +14,7 @@ ghost use Rattle.sets.specs.Shapes.{merge_of, link_of, shape_of, either_shape, t
 use limits::{MOST_EVENTS, NUMBERS};
 
 // What a part of a pattern carries: `follow` at a number those that can come next after it, `named` at an event those that name it.
-#[derive(Drop)]
+#[derive(Clone, Copy)]
 pub struct Shape {
     pub null: bool,
     pub first: u32,

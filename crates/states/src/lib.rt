@@ -22,7 +22,7 @@ pub const TOTAL: u32 = 0;
 
 // The table of a pattern: whether there are more than 64 states (and all else is 0), and else how many there are, the state
 // that event e leads to from state s (at s * 16 + e), and the verdict of each state.
-#[derive(Drop)]
+#[derive(Clone, Copy)]
 pub struct Table {
     pub over: bool,
     pub states: usize,

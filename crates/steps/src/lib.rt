@@ -13,7 +13,7 @@ use moves::Known;
 
 // What a call answers: the number of refusal, or 0; the rows of both tables that count now; and the reports made.
 #[repr(C)]
-#[derive(Drop)]
+#[derive(Clone, Copy)]
 pub struct Answered {
     pub refusal: u8,
     pub seen: usize,

@@ -25,14 +25,14 @@ const MATCH: [u8; 5] = *b"match";
 const FAIL: [u8; 4] = *b"fail";
 
 // What stands at a place: its kind, and the place after it.
-#[derive(Drop)]
+#[derive(Clone, Copy)]
 pub struct Token {
     pub kind: u8,
     pub end: usize,
 }
 
 // The same, with the place of the token after it.
-#[derive(Drop)]
+#[derive(Clone, Copy)]
 pub struct Step {
     pub kind: u8,
     pub end: usize,

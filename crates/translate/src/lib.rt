@@ -16,7 +16,7 @@ use limits::{MOST_EVENTS, MOST_STATES, TRANSITIONS};
 
 // What is translated: the table; or a refusal's number, its offset for 6 to 9, and a table of zeros.
 #[repr(C)]
-#[derive(Drop)]
+#[derive(Clone, Copy)]
 pub struct Translated {
     pub refusal: u8,
     pub at: usize,

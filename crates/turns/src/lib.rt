@@ -66,7 +66,7 @@ pub fn step_row<'a, 'b, 'c>(
 // What the run answers: the number of the refusal that stopped it, or 0; the rows taken and the next offset; the rows of both
 // tables that count now; and the reports made.
 #[repr(C)]
-#[derive(Drop)]
+#[derive(Clone, Copy)]
 pub struct Ran {
     pub refusal: u8,
     pub taken: usize,

@@ -14,7 +14,7 @@ const LONG_ROW: usize = 129;
 
 // The bytes from `at` on, up to `held`, are not printed yet. `ended`: no more will come; `failed`: because a read failed.
 // `inside`: what comes next still belongs to a row that is printed already, as too long.
-#[derive(Drop)]
+#[derive(Clone, Copy)]
 pub struct Window {
     pub at: usize,
     pub held: usize,

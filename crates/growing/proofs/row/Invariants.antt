@@ -4,7 +4,7 @@ use Prim.Native.Nat.{◌-◌}
 use Rattle.growing.proofs.row.Given as goal
 
 abbrev pub invariant-loop-e : goal.invariant-loop-e
-invariant-loop-e l = Rowing l.initial.sets l.initial.next l.events l.to l.count l.i l.sets l.next l.n l.e
+invariant-loop-e l = Rowing l.to l.events l.i l.count l.initial.sets l.initial.next l.sets l.next l.n l.e
 
 abbrev pub decreases-loop-e : goal.decreases-loop-e
-decreases-loop-e l = l.initial.next - l.e
+decreases-loop-e l = l.events - l.e

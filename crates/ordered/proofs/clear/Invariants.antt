@@ -6,7 +6,7 @@ use mathlib.Core.Path.{◌≡◌}
 use Rattle.ordered.proofs.clear.Given as goal
 
 abbrev pub invariant-loop-p : goal.invariant-loop-p
-invariant-loop-p l = (l.initial.t ≤ length l.t) × (length l.t ≡ length l.from) × Clears l.to l.p l.initial.t l.from l.t
+invariant-loop-p l = (l.to ≤ length l.t) × (length l.t ≡ length l.initial.t) × Clears l.from l.p l.to l.initial.t l.t
 
 abbrev pub decreases-loop-p : goal.decreases-loop-p
-decreases-loop-p l = l.initial.t - l.p
+decreases-loop-p l = l.to - l.p

@@ -6,7 +6,7 @@ use mathlib.Core.Path.{◌≡◌}
 use Rattle.ordered.proofs.raise.Given as goal
 
 abbrev pub invariant-loop-p : goal.invariant-loop-p
-invariant-loop-p l = (l.n ≤ l.p) × (l.p ≤ l.by) × (0 < l.initial.t) × (l.by + l.initial.t ≤ length l.t) × (length l.t ≡ length l.a) × Raised l.initial.t l.p l.by l.a l.t
+invariant-loop-p l = (l.a ≤ l.p) × (l.p ≤ l.n) × (0 < l.by) × (l.n + l.by ≤ length l.t) × (length l.t ≡ length l.initial.t) × Raised l.by l.p l.n l.initial.t l.t
 
 abbrev pub decreases-loop-p : goal.decreases-loop-p
 decreases-loop-p l = l.p

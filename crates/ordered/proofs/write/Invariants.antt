@@ -7,7 +7,7 @@ use mathlib.Core.Path.{◌≡◌}
 use Rattle.ordered.proofs.write.Given as goal
 
 abbrev pub invariant-loop-j : goal.invariant-loop-j
-invariant-loop-j l = (l.j ≤ width) × (l.c + width ≤ length l.t) × (length l.t ≡ length l.at) × (length l.initial.t ≡ width) × Pasted l.j l.c l.initial.t l.at l.t
+invariant-loop-j l = (l.j ≤ width) × (l.at + width ≤ length l.t) × (length l.t ≡ length l.initial.t) × (length l.c ≡ width) × Pasted l.j l.at l.c l.initial.t l.t
 
 abbrev pub decreases-loop-j : goal.decreases-loop-j
 decreases-loop-j l = width - l.j
