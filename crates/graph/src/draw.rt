@@ -1,18 +1,18 @@
 // The text of a graph (docs/GRAPH.md): a line for each state, then a line for each arrow.
-use libc::STDOUT_FILENO;
 use limits::{Transitions, Verdicts};
 use property::Property;
+use std::io;
 
 const MATCH: u8 = 1;
 
 const FAIL: u8 = 2;
 
-fn print(text: &[u8]) {
-    io::write_all(STDOUT_FILENO, text);
+fn print(rt: &impl Print, text: &[u8]) -> io::Result<()> {
+    rt.write_all(text)
 }
 
-fn print_number(n: usize) {
-    io::print_decimal(STDOUT_FILENO, n as u64);
+fn print_number(rt: &impl Print, n: usize) -> io::Result<()> {
+    rt.print(n)
 }
 
 fn wide(n: u8) -> usize {
@@ -28,55 +28,56 @@ fn has_offset(refusal: u8) -> bool {
 }
 
 // `refused`, its number, and where it has one its offset.
-pub fn print_refusal(refusal: u8, at: usize) {
-    print(b"refused ");
-    print_number(wide(refusal));
+pub fn print_refusal(rt: &impl Print, refusal: u8, at: usize) -> io::Result<()> {
+    print(rt, b"refused ")?;
+    print_number(rt, wide(refusal))?;
     if has_offset(refusal) {
-        print(b" at ");
-        print_number(at);
+        print(rt, b" at ")?;
+        print_number(rt, at)?;
     }
-    print(b"\n");
+    print(rt, b"\n")
 }
 
 // A state's verdict and its shape: a double circle for match, a grey box for fail, a circle for undecided.
-fn print_verdict(verdict: u8) {
+fn print_verdict(rt: &impl Print, verdict: u8) -> io::Result<()> {
     if verdict == MATCH {
-        print(b"match\", shape=doublecircle, style=\"");
-        return;
+        return print(rt, b"match\", shape=doublecircle, style=\"");
     }
     if verdict == FAIL {
-        print(b"fail\", shape=box, fillcolor=grey, style=\"filled,");
-        return;
+        return print(rt, b"fail\", shape=box, fillcolor=grey, style=\"filled,");
     }
-    print(b"undecided\", shape=circle, style=\"");
+    print(rt, b"undecided\", shape=circle, style=\"")
 }
 
 // Hopeful states are bold.
-fn print_hope(hopeful: bool) {
+fn print_hope(rt: &impl Print, hopeful: bool) -> io::Result<()> {
     if hopeful {
-        print(b"bold\"];\n");
-        return;
+        return print(rt, b"bold\"];\n");
     }
-    print(b"solid\"];\n");
+    print(rt, b"solid\"];\n")
 }
 
-fn print_state(state: usize, verdict: u8, hopeful: bool) {
-    print(b"    ");
-    print_number(state);
-    print(b" [label=\"");
-    print_number(state);
-    print(b" ");
-    print_verdict(verdict);
-    print_hope(hopeful);
+fn print_state(rt: &impl Print, state: usize, verdict: u8, hopeful: bool) -> io::Result<()> {
+    print(rt, b"    ")?;
+    print_number(rt, state)?;
+    print(rt, b" [label=\"")?;
+    print_number(rt, state)?;
+    print(rt, b" ")?;
+    print_verdict(rt, verdict)?;
+    print_hope(rt, hopeful)
 }
 
 // The first states of a table, as many as it has.
-fn print_states(verdicts: &Verdicts, states: usize, hopeful: u64) {
-    let mut state: usize = 0;
-    while state < states && state < limits::MOST_STATES {
-        print_state(state, verdicts[state], bits::has(hopeful, state));
-        state += 1;
+fn print_states(
+    rt: &impl Print,
+    verdicts: &Verdicts,
+    states: usize,
+    hopeful: u64,
+) -> io::Result<()> {
+    for state in 0..states.min(limits::MOST_STATES) {
+        print_state(rt, state, verdicts[state], bits::has(hopeful, state))?;
     }
+    Ok(())
 }
 
 // Whether an event leads from one state to another.
@@ -92,70 +93,69 @@ fn leads(next: &Transitions, from: usize, event: usize, to: usize) -> bool {
 }
 
 // What stands before an event's name on an arrow: the arrow's head for the first, a comma for the others.
-fn print_before_name(from: usize, to: usize, first: bool) {
+fn print_before_name(rt: &impl Print, from: usize, to: usize, first: bool) -> io::Result<()> {
     if !first {
-        print(b", ");
-        return;
+        return print(rt, b", ");
     }
-    print(b"    ");
-    print_number(from);
-    print(b" -> ");
-    print_number(to);
-    print(b" [label=\"");
+    print(rt, b"    ")?;
+    print_number(rt, from)?;
+    print(rt, b" -> ")?;
+    print_number(rt, to)?;
+    print(rt, b" [label=\"")
 }
 
 // The arrow from one state to another, with the names of the events that go that way; nothing where none does.
 fn print_arrow(
+    rt: &impl Print,
     declarations: &[u8],
     pattern: &[u8],
     next: &Transitions,
     events: usize,
     from: usize,
     to: usize,
-) {
+) -> io::Result<()> {
     let mut none_yet = true;
-    let mut event: usize = 0;
-    while event < events {
+    for event in 0..events {
         if leads(next, from, event, to) {
-            print_before_name(from, to, none_yet);
-            print(declared::event_name(declarations, pattern, event));
+            print_before_name(rt, from, to, none_yet)?;
+            print(rt, declared::event_name(declarations, pattern, event))?;
             none_yet = false;
         }
-        event += 1;
     }
     if !none_yet {
-        print(b"\"];\n");
+        print(rt, b"\"];\n")?;
     }
+    Ok(())
 }
 
 // The arrows that leave a state.
 fn print_arrows_from(
+    rt: &impl Print,
     declarations: &[u8],
     pattern: &[u8],
     next: &Transitions,
     events: usize,
     states: usize,
     from: usize,
-) {
-    let mut to: usize = 0;
-    while to < states {
-        print_arrow(declarations, pattern, next, events, from, to);
-        to += 1;
+) -> io::Result<()> {
+    for to in 0..states {
+        print_arrow(rt, declarations, pattern, next, events, from, to)?;
     }
+    Ok(())
 }
 
 fn print_arrows(
+    rt: &impl Print,
     declarations: &[u8],
     pattern: &[u8],
     next: &Transitions,
     events: usize,
     states: usize,
-) {
-    let mut from: usize = 0;
-    while from < states {
-        print_arrows_from(declarations, pattern, next, events, states, from);
-        from += 1;
+) -> io::Result<()> {
+    for from in 0..states {
+        print_arrows_from(rt, declarations, pattern, next, events, states, from)?;
     }
+    Ok(())
 }
 
 // The hopeful states of a table. One that `translate` made is always in range.
@@ -166,11 +166,16 @@ fn hopeful_states(p: Property) -> u64 {
     0
 }
 
-pub fn print_graph(declarations: &[u8], pattern: &[u8], p: Property) {
-    print(b"digraph {\n    rankdir=LR;\n");
+pub fn print_graph(
+    rt: &impl Print,
+    declarations: &[u8],
+    pattern: &[u8],
+    p: Property,
+) -> io::Result<()> {
+    print(rt, b"digraph {\n    rankdir=LR;\n")?;
     let verdicts = p.verdicts;
-    print_states(&verdicts, p.states, hopeful_states(p));
+    print_states(rt, &verdicts, p.states, hopeful_states(p))?;
     let next = p.next;
-    print_arrows(declarations, pattern, &next, p.events, p.states);
-    print(b"}\n");
+    print_arrows(rt, declarations, pattern, &next, p.events, p.states)?;
+    print(rt, b"}\n")
 }

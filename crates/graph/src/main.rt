@@ -4,6 +4,7 @@
 #![tactic(auto)]
 
 use draw::{print_graph, print_refusal};
+use std::io;
 
 mod draw;
 
@@ -11,20 +12,19 @@ mod draw;
 const TEXT_ROOM: usize = 4097;
 
 // The graph of two texts, or why there is none.
-fn print_answer(declarations: &[u8], pattern: &[u8]) {
+fn print_answer(rt: &impl Print, declarations: &[u8], pattern: &[u8]) -> io::Result<()> {
     let t = translate::translate(declarations, pattern);
     if t.refusal != refusals::TAKEN {
-        print_refusal(t.refusal, t.at);
-        return;
+        return print_refusal(rt, t.refusal, t.at);
     }
     let p = t.property;
-    print_graph(declarations, pattern, p);
+    print_graph(rt, declarations, pattern, p)
 }
 
-fn main() {
+fn main(rt: HostRuntime) -> io::Result<()> {
     let mut declarations = [0u8; TEXT_ROOM];
-    let declared_to = files::read_whole(b"events.csv", &mut declarations);
+    let declared_to = files::read_whole(&rt, "events.csv", &mut declarations);
     let mut pattern = [0u8; TEXT_ROOM];
-    let pattern_to = files::read_whole(b"pattern.txt", &mut pattern);
-    print_answer(&declarations[..declared_to], &pattern[..pattern_to]);
+    let pattern_to = files::read_whole(&rt, "pattern.txt", &mut pattern);
+    print_answer(&rt, &declarations[..declared_to], &pattern[..pattern_to])
 }

@@ -5,30 +5,30 @@
 ghost use Rattle.std.specs.Prelude.{◌≤◌, length};
 ghost use Rattle.lineparts.specs.Lines.{most_refusal, most_heading};
 
-use libc::STDOUT_FILENO;
-
 // Writes out the first bytes of a text; a write that fails is said on standard error.
-pub fn write_out(text: &[u8], filled: usize) -> bool {
+pub fn write_out(rt: &(impl Print + Eprint), text: &[u8], filled: usize) -> bool {
     if text.len() < filled {
         return false;
     }
-    let is_written = io::write_all(STDOUT_FILENO, &text[0..filled]);
-    if !is_written {
-        os::fail(b"standard output");
+    match rt.write_all(&text[0..filled]) {
+        Ok(()) => true,
+        Err(error) => {
+            files::say(rt, "standard output", error);
+            false
+        }
     }
-    is_written
 }
 
 // The only line where the declarations, the pattern or the header is refused.
-pub fn print_refusal(text: &mut [u8], refusal: u8)
+pub fn print_refusal(rt: &(impl Print + Eprint), text: &mut [u8], refusal: u8)
     requires { most_refusal ≤ length text.old }
 {
     let filled = lines::put_refusal(text, 0, refusal);
-    write_out(text, filled);
+    write_out(rt, text, filled);
 }
 
 // The heading, of declarations that are taken.
-pub fn print_heading(text: &mut [u8], declarations: &[u8]) -> bool
+pub fn print_heading(rt: &(impl Print + Eprint), text: &mut [u8], declarations: &[u8]) -> bool
     requires { most_heading ≤ length text.old }
 {
     let reading = declaring::read(declarations);
@@ -36,5 +36,5 @@ pub fn print_heading(text: &mut [u8], declarations: &[u8]) -> bool
         return false;
     }
     let filled = heading::put_heading(text, 0, declarations);
-    write_out(text, filled)
+    write_out(rt, text, filled)
 }

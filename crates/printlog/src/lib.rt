@@ -7,6 +7,7 @@ ghost use Rattle.std.specs.Prelude.{◌≤◌, ◌≡◌, length};
 ghost use Rattle.lineparts.specs.Lines.{most_heading};
 
 use property::Property;
+use std::io::Read;
 use window::Window;
 
 // How far the log is printed: the number of the next row, the rows of both tables that count, and whether all went well.
@@ -40,6 +41,7 @@ fn printed_to(d: printrow::Printed) -> Course {
 
 // Rows that are held whole, each with its line end, but for the last of a log.
 fn print_rows(
+    rt: &(impl Print + Eprint),
     declarations: &[u8],
     p: Property,
     seen: &mut [u32],
@@ -68,10 +70,7 @@ fn print_rows(
             c.number,
             text,
         );
-        if d.next <= at {
-            return stopped(c);
-        }
-        if !output::write_out(text, d.filled) {
+        if d.next <= at || !output::write_out(rt, text, d.filled) {
             return stopped(c);
         }
         c = printed_to(d);
@@ -89,6 +88,7 @@ struct Step {
 
 // A row that is too long, wherever it ends: its line is printed, and the window goes on inside it.
 fn print_long(
+    rt: &(impl Print + Eprint),
     declarations: &[u8],
     p: Property,
     seen: &mut [u32],
@@ -111,7 +111,7 @@ fn print_long(
         };
     }
     let part = &log[at..end];
-    let course = print_rows(declarations, p, seen, kept, reports, part, text, c);
+    let course = print_rows(rt, declarations, p, seen, kept, reports, part, text, c);
     Step {
         window: window::inside_row(w),
         course,
@@ -120,6 +120,7 @@ fn print_long(
 
 // What a window holds: its whole rows, then what can be said of the row that goes on. Of one that is printed already, nothing.
 fn print_window(
+    rt: &(impl Print + Eprint),
     declarations: &[u8],
     p: Property,
     seen: &mut [u32],
@@ -140,9 +141,10 @@ fn print_window(
     let at = w.at;
     let end = window::rows_end(log, w);
     let part = &log[at..end];
-    let course = print_rows(declarations, p, seen, kept, reports, part, text, c);
+    let course = print_rows(rt, declarations, p, seen, kept, reports, part, text, c);
     let rest = window::from(w, end);
     print_long(
+        rt,
         declarations,
         p,
         seen,
@@ -156,8 +158,9 @@ fn print_window(
 }
 
 // One turn over the log: what the window holds is printed, and the window is filled again.
-fn turn(
-    fd: i32,
+fn turn<R: Read>(
+    rt: &(impl Print + Eprint),
+    file: &mut Option<R>,
     declarations: &[u8],
     p: Property,
     seen: &mut [u32],
@@ -170,10 +173,10 @@ fn turn(
     requires { (s.window.at ≤ s.window.held) × (s.window.held ≤ length log.old) }
     ensures { (result.window.at ≤ result.window.held) × (result.window.held ≤ length log.old) }
 {
-    let printed = print_window(declarations, p, seen, kept, reports, log, text, s);
+    let printed = print_window(rt, declarations, p, seen, kept, reports, log, text, s);
     let rest = printed.window;
     let course = printed.course;
-    let window = window::refill(fd, log, rest);
+    let window = window::refill(rt, file, log, rest);
     Step { window, course }
 }
 
@@ -184,10 +187,11 @@ fn goes_on(s: Step) -> bool {
     c.well && (w.at < w.held || !w.ended)
 }
 
-// The log after its header. A proved loop has to end, and nothing says that a file does. So the loop counts its turns down,
-// from a number that no run uses up.
-fn print_log(
-    fd: i32,
+// The log after its header. A proved loop has to end, and nothing says that a file does. So the loop has a number of turns that no
+// run uses up.
+fn print_log<R: Read>(
+    rt: &(impl Print + Eprint),
+    file: &mut Option<R>,
     declarations: &[u8],
     p: Property,
     seen: &mut [u32],
@@ -200,18 +204,19 @@ fn print_log(
     requires { (begun.window.at ≤ begun.window.held) × (begun.window.held ≤ length log.old) }
 {
     let mut s = begun;
-    let mut turns = u64::MAX;
-    while 0 < turns && goes_on(s) {
-        let next = turn(fd, declarations, p, seen, kept, reports, log, text, s);
-        s = next;
-        turns -= 1;
+    for _ in 0..u64::MAX {
+        if !goes_on(s) {
+            return;
+        }
+        s = turn(rt, file, declarations, p, seen, kept, reports, log, text, s);
     }
 }
 
 // Where declarations, pattern and header are taken: starts the session, and prints the heading and the log. Start is not refused:
 // the table was translated, and there is room for the first kept row.
-pub fn print_all(
-    fd: i32,
+pub fn print_all<R: Read>(
+    rt: &(impl Print + Eprint),
+    file: &mut Option<R>,
     declarations: &[u8],
     p: Property,
     seen: &mut [u32],
@@ -224,7 +229,7 @@ pub fn print_all(
     requires { (first.at ≤ first.held) × ((first.held ≤ length log.old) × (most_heading ≤ length text.old)) }
 {
     let started = starting::start(p, seen, kept);
-    let well = output::print_heading(text, declarations);
+    let well = output::print_heading(rt, text, declarations);
     let window = window::after_row(log, first);
     let begun = Step {
         window,
@@ -235,5 +240,16 @@ pub fn print_all(
             well,
         },
     };
-    print_log(fd, declarations, p, seen, kept, reports, log, text, begun);
+    print_log(
+        rt,
+        file,
+        declarations,
+        p,
+        seen,
+        kept,
+        reports,
+        log,
+        text,
+        begun,
+    );
 }

@@ -7,6 +7,8 @@
 ghost use Rattle.std.specs.Prelude.{◌≤◌, length};
 ghost use Rattle.lineparts.specs.Lines.{most_refusal, most_heading};
 
+use std::rt::Files;
+
 // A text of 4,096 bytes is taken. One byte more is enough to see that a text is longer, which the library then refuses.
 const TEXT_ROOM: usize = 4097;
 
@@ -23,6 +25,7 @@ const LINES_ROOM: usize = 2 * REPORTS * lines::MOST_LINE;
 
 // The output for both texts and the log: the one line of a refusal, or the heading and the log's lines.
 fn watch(
+    rt: &(impl Files + Print + Eprint),
     declarations: &[u8],
     pattern: &[u8],
     seen: &mut [u32],
@@ -35,31 +38,43 @@ fn watch(
 {
     let t = translate::translate(declarations, pattern);
     if t.refusal != refusals::TAKEN {
-        output::print_refusal(text, t.refusal);
+        output::print_refusal(rt, text, t.refusal);
         return;
     }
-    let fd = files::open(b"log.csv");
-    let first = window::first(fd, log);
+    let mut file = files::open(rt, "log.csv");
+    let first = window::first(rt, &mut file, log);
     let refusal = window::judge_header(declarations, log, first);
     if refusal != refusals::TAKEN {
-        output::print_refusal(text, refusal);
+        output::print_refusal(rt, text, refusal);
         return;
     }
     let p = t.property;
-    printlog::print_all(fd, declarations, p, seen, kept, reports, log, text, first);
+    printlog::print_all(
+        rt,
+        &mut file,
+        declarations,
+        p,
+        seen,
+        kept,
+        reports,
+        log,
+        text,
+        first,
+    );
 }
 
-fn main() {
+fn main(rt: HostRuntime) {
     let mut declarations = [0u8; TEXT_ROOM];
-    let declared_to = files::read_whole(b"events.csv", &mut declarations);
+    let declared_to = files::read_whole(&rt, "events.csv", &mut declarations);
     let mut pattern = [0u8; TEXT_ROOM];
-    let pattern_to = files::read_whole(b"pattern.txt", &mut pattern);
+    let pattern_to = files::read_whole(&rt, "pattern.txt", &mut pattern);
     let mut seen = [0u32; rooms::SEEN_NUMBERS];
     let mut kept = [0u32; rooms::KEPT_NUMBERS];
     let mut reports = [0u32; REPORT_NUMBERS];
     let mut log = [0u8; LOG_ROOM];
     let mut text = [0u8; LINES_ROOM];
     watch(
+        &rt,
         &declarations[..declared_to],
         &pattern[..pattern_to],
         &mut seen,

@@ -5,6 +5,8 @@
 
 ghost use Rattle.std.specs.Prelude.{◌+◌, ◌≤◌, length, ◌≡◌};
 
+use std::io::Read;
+
 const CR: u8 = 13;
 
 const LF: u8 = 10;
@@ -121,38 +123,38 @@ fn to_front(log: &mut [u8], from: usize, count: usize)
     }
 }
 
-// Reads on after the bytes at the front, until the buffer is full or the log ends.
-fn read_on(fd: i32, log: &mut [u8], front: usize) -> Window
+// Reads on after the bytes at the front, until the buffer is full or the log ends; a log that is not there has no more.
+fn read_on<R: Read>(rt: &impl Eprint, file: &mut Option<R>, log: &mut [u8], front: usize) -> Window
     requires { front ≤ length log.old }
     ensures { (result.at ≤ result.held) × (result.held ≤ length log.old) }
 {
-    let filled = files::fill(fd, log, front);
-    if filled.failed {
-        os::fail(b"log.csv");
+    let Some(file) = file else {
+        return Window {
+            at: 0,
+            held: front,
+            ended: true,
+            failed: false,
+            inside: false,
+        };
+    };
+    let filled = files::fill(file, log, front);
+    if let Some(error) = filled.failed {
+        files::say(rt, "log.csv", error);
     }
     Window {
         at: 0,
         held: filled.held,
         ended: filled.ended,
-        failed: filled.failed,
+        failed: filled.failed.is_some(),
         inside: false,
     }
 }
 
 // The log's first bytes; a log that is not there has none.
-pub fn first(fd: i32, log: &mut [u8]) -> Window
+pub fn first<R: Read>(rt: &impl Eprint, file: &mut Option<R>, log: &mut [u8]) -> Window
     ensures { (result.at ≤ result.held) × (result.held ≤ length log.old) }
 {
-    if fd < 0 {
-        return Window {
-            at: 0,
-            held: 0,
-            ended: true,
-            failed: false,
-            inside: false,
-        };
-    }
-    read_on(fd, log, 0)
+    read_on(rt, file, log, 0)
 }
 
 // The window after the line end of its first row, which is printed or judged; where that is not held, the row goes on.
@@ -170,7 +172,7 @@ pub fn after_row(log: &[u8], w: Window) -> Window
 }
 
 // What comes after a window of which all before `at` is printed; nothing where no more will come.
-pub fn refill(fd: i32, log: &mut [u8], w: Window) -> Window
+pub fn refill<R: Read>(rt: &impl Eprint, file: &mut Option<R>, log: &mut [u8], w: Window) -> Window
     requires { (w.at ≤ w.held) × (w.held ≤ length log.old) }
     ensures { (result.at ≤ result.held) × (result.held ≤ length log.old) }
 {
@@ -179,7 +181,7 @@ pub fn refill(fd: i32, log: &mut [u8], w: Window) -> Window
     }
     let left = w.held - w.at;
     to_front(log, w.at, left);
-    let more = read_on(fd, log, left);
+    let more = read_on(rt, file, log, left);
     if w.inside {
         return after_row(log, more);
     }
