@@ -1,4 +1,4 @@
-/* Gorrindatz for hosts in C and C++ on x86-64 Linux: the calls of the library libgorrindatz.a (crates/gorrindatz).
+/* Gorrindatz for hosts in C and C++ on x86-64 Linux: the calls of the library libgorrindatz.a (crates/gorrindatz_c).
 
    Every call takes every input, allocates nothing and keeps nothing: what it knows of a session lies in the tables that you lend.
    A refusal is a number (below), and leaves every lent number and byte as it was; only a run keeps what its rows before the

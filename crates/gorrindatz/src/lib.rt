@@ -1,7 +1,7 @@
 // The calls of the face for hosts in C and C++, which include/gorrindatz.h declares: each is one call of a crate below, under the
-// same contract. To C a slice is a pointer and a length, in elements; a combination is lent, and a part of a text is told by its
-// place. `rt staticlib gorrindatz` writes target/staticlib/libgorrindatz.a. No call has a `requires`; what the types say and a
-// host owes (pointers that are valid, aligned and not null, what is written overlapping nothing) stands in the header.
+// same contract. A combination is lent, and a part of a text is told by its place. crates/gorrindatz_c exports them to C. No call
+// has a `requires`; what the types say and a host owes (pointers that are valid, aligned and not null, what is written overlapping
+// nothing) stands in the header.
 
 #![tactic(auto)]
 
@@ -76,50 +76,43 @@ const LINE: [u8; 72] = [0; MOST_LINE];
 
 // Texts -----------------------------------------------------------------------------------------------------------------
 
-#[unsafe(no_mangle)]
-pub extern "C" fn gorrindatz_class_of(byte: u8) -> u8
+pub fn gorrindatz_class_of(byte: u8) -> u8
     ensures { result ≡ class_of byte }
 {
     classes::class_of(byte)
 }
 
-#[unsafe(no_mangle)]
-pub extern "C" fn gorrindatz_declarations(text: &[u8]) -> Declared
+pub fn gorrindatz_declarations(text: &[u8]) -> Declared
     ensures { result ≡ declared_of (declarations text.now) }
 {
     declared::declarations(text)
 }
 
-#[unsafe(no_mangle)]
-pub extern "C" fn gorrindatz_header(declarations: &[u8], row: &[u8]) -> u8
+pub fn gorrindatz_header(declarations: &[u8], row: &[u8]) -> u8
     ensures { result ≡ refusal_of (header declarations.now row.now) }
 {
     declared::header(declarations, row)
 }
 
-#[unsafe(no_mangle)]
-pub extern "C" fn gorrindatz_field(row: &[u8], number: usize) -> Part
+pub fn gorrindatz_field(row: &[u8], number: usize) -> Part
     ensures { ToldAt row.now (field_part row.now number).start (field row.now number) result }
 {
     fields::field_place(row, number)
 }
 
-#[unsafe(no_mangle)]
-pub extern "C" fn gorrindatz_event_name(declarations: &[u8], event: usize) -> Part
+pub fn gorrindatz_event_name(declarations: &[u8], event: usize) -> Part
     ensures { ToldAt declarations.now (event_start declarations.now event) (event_name declarations.now event) result }
 {
     declared::event_place(declarations, event)
 }
 
-#[unsafe(no_mangle)]
-pub extern "C" fn gorrindatz_pattern_name(pattern: &[u8], at: usize) -> Part
+pub fn gorrindatz_pattern_name(pattern: &[u8], at: usize) -> Part
     ensures { ToldAt pattern.now (place_from at (name_at pattern.now at)) (name_at pattern.now at) result }
 {
     declared::pattern_place(pattern, at)
 }
 
-#[unsafe(no_mangle)]
-pub extern "C" fn gorrindatz_row_at(log: &[u8], at: usize) -> Place
+pub fn gorrindatz_row_at(log: &[u8], at: usize) -> Place
     ensures { result ≡ place_at log.now at }
 {
     reader::place_at(log, at)
@@ -127,15 +120,13 @@ pub extern "C" fn gorrindatz_row_at(log: &[u8], at: usize) -> Place
 
 // Properties ------------------------------------------------------------------------------------------------------------
 
-#[unsafe(no_mangle)]
-pub extern "C" fn gorrindatz_translate(declarations: &[u8], pattern: &[u8]) -> Translated
+pub fn gorrindatz_translate(declarations: &[u8], pattern: &[u8]) -> Translated
     ensures { result ≡ translated_of (translate declarations.now pattern.now) }
 {
     translate::translate(declarations, pattern)
 }
 
-#[unsafe(no_mangle)]
-pub extern "C" fn gorrindatz_check(p: Property) -> Checked
+pub fn gorrindatz_check(p: Property) -> Checked
     ensures { Checks (meaning p) result }
 {
     hopes::check(p)
@@ -143,15 +134,13 @@ pub extern "C" fn gorrindatz_check(p: Property) -> Checked
 
 // Sessions --------------------------------------------------------------------------------------------------------------
 
-#[unsafe(no_mangle)]
-pub extern "C" fn gorrindatz_start(p: Property, seen: &mut [u32], kept: &mut [u32]) -> Answered
+pub fn gorrindatz_start(p: Property, seen: &mut [u32], kept: &mut [u32]) -> Answered
     ensures { StartLeaves (start (meaning p) seen.old kept.old) seen.old kept.old result seen.new kept.new }
 {
     starting::start(p, seen, kept)
 }
 
-#[unsafe(no_mangle)]
-pub extern "C" fn gorrindatz_event(
+pub fn gorrindatz_event(
     p: Property,
     seen: &mut [u32],
     n: usize,
@@ -167,8 +156,7 @@ pub extern "C" fn gorrindatz_event(
     session::event(p, seen, n, kept, m, reports, e, v)
 }
 
-#[unsafe(no_mangle)]
-pub extern "C" fn gorrindatz_lookup(
+pub fn gorrindatz_lookup(
     p: Property,
     seen: &[u32],
     n: usize,
@@ -184,8 +172,7 @@ pub extern "C" fn gorrindatz_lookup(
 
 // Logs ------------------------------------------------------------------------------------------------------------------
 
-#[unsafe(no_mangle)]
-pub extern "C" fn gorrindatz_row<'a, 'b>(
+pub fn gorrindatz_row<'a, 'b>(
     declarations: &'a [u8],
     p: Property,
     seen: &mut [u32],
@@ -200,8 +187,7 @@ pub extern "C" fn gorrindatz_row<'a, 'b>(
     logs::row(declarations, p, seen, n, kept, m, reports, bytes)
 }
 
-#[unsafe(no_mangle)]
-pub extern "C" fn gorrindatz_run<'a, 'b>(
+pub fn gorrindatz_run<'a, 'b>(
     declarations: &'a [u8],
     p: Property,
     seen: &mut [u32],
@@ -218,8 +204,7 @@ pub extern "C" fn gorrindatz_run<'a, 'b>(
     logs::run(declarations, p, seen, n, kept, m, reports, log, at, budget)
 }
 
-#[unsafe(no_mangle)]
-pub extern "C" fn gorrindatz_print<'a, 'b>(
+pub fn gorrindatz_print<'a, 'b>(
     declarations: &'a [u8],
     p: Property,
     seen: &mut [u32],

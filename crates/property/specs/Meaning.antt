@@ -17,7 +17,7 @@ meaning p = record {
   verdicts = p.verdicts;
 }
 
--- The parts of `inRange`, in its order: the counts and the set asked for; the sets of the events; the verdicts and the
+-- The parts of `in_range`, in its order: the counts and the set asked for; the sets of the events; the verdicts and the
 -- states that the events lead to, in the first n states.
 unfoldable pub counts_fit : ℕ → ℕ → ℕ → ℕ → Bool
 counts_fit parameters events states asked =

@@ -159,7 +159,7 @@ module _ (κs : Lfts 2) (declarations bytes : Lent) where
   pub header_single : (r q : ℕ) → HeaderPromise r → HeaderPromise q → r ≡ q
   header_single r q x y = x ∙ sym y
 
--- log::row(declarations, p, &mut seen, n, &mut kept, m, &mut reports, bytes)
+-- logs::row(declarations, p, &mut seen, n, &mut kept, m, &mut reports, bytes)
 module _ (κs : Lfts 5) (declarations : Lent) (p : Property) (seen : Lent) (n : ℕ) (kept : Lent) (m : ℕ)
     (reports bytes : Lent) where
   abbrev pub RowPromise : Answered → List ℕ → List ℕ → List ℕ → Type 0
@@ -307,7 +307,7 @@ module _ (κs : Lfts 1) (log : Lent) (start end : ℕ) where
   pub part_single : (r q : Lent) → PartPromise r → PartPromise q → (r.now ≡ q.now) × (r.ref_ptr ≡ q.ref_ptr)
   part_single r q x y = part_at_single x y
 
--- log::run(declarations, p, &mut seen, n, &mut kept, m, &mut reports, log, at, budget)
+-- logs::run(declarations, p, &mut seen, n, &mut kept, m, &mut reports, log, at, budget)
 module _ (κs : Lfts 5) (declarations : Lent) (p : Property) (seen : Lent) (n : ℕ) (kept : Lent) (m : ℕ)
     (reports log : Lent) (at budget : ℕ) where
   abbrev pub RunPromise : Ran → List ℕ → List ℕ → List ℕ → Type 0
