@@ -1,6 +1,6 @@
 -- A rule of a table, at all of its entries, from one test that antt computes entry by entry.
 -- Assumes nothing.
-use mathlib.Core.Path.{◌≡◌, ◌∙◌, subst, sym}
+use mathlib.Core.Path.{◌∙◌, subst, sym}
 use mathlib.Core.Bool.{Bool, true, false, ◌&&◌}
 use mathlib.Core.List.{List, [], ◌∷◌}
 use Prim.Native.Nat.{ℕ, zero, suc, ◌+◌, ◌<◌}

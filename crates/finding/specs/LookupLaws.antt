@@ -13,7 +13,7 @@ use Rattle.document.specs.Combinations.{precedes, zero_past}
 use Rattle.document.specs.OneEvent.{Kept, join_seen}
 use Rattle.document.specs.Property.{Property, in_range, verdict}
 use Rattle.document.specs.Tables.{numbers_at, seen_rows, kept_rows}
-use Rattle.document.specs.Session.{seen_of, kept_of, sound, held, find_kept, lookup}
+use Rattle.document.specs.Session.{seen_of, kept_of, sound, find_kept, lookup}
 use Rattle.basics.specs.Tests.{decided}
 use Rattle.words.specs.Range.{in_range_range}
 use Rattle.slices.specs.TestsLaws.{so, not_so, true_of, equal_of, of_equal}

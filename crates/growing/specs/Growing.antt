@@ -1,7 +1,6 @@
 -- Document 01, "The table": the states as the code grows them, from the lists that a pattern's shape holds.
 -- Assumes nothing.
 use Rattle.std.specs.Prelude.{ℕ, zero, suc, ◌+◌, ◌*◌, ◌/◌, ◌%◌, ◌≤◌, ◌<◌, ◌≡◌, Bool, cond, List, [], length, get_or, take}
-use mathlib.Core.List as list
 use Rattle.document.specs.Lists.{tabulate}
 use Rattle.document.specs.Limits.{most_events, most_names, most_states}
 use Rattle.document.specs.Patterns.{Pattern}

@@ -11,7 +11,7 @@ use native.Mathlib.Omega.{arith}
 use Rattle.std.proofs.Math.ListN.{length}
 use Rattle.document.specs.Lists.{In}
 use Rattle.document.specs.Limits.{width, kept_stride}
-use Rattle.document.specs.OneEvent.{Kept, moves, moved_from}
+use Rattle.document.specs.OneEvent.{Kept, moved_from}
 use Rattle.document.specs.Tables.{seen_rows}
 use Rattle.basics.specs.Tests.{decided}
 use Rattle.basics.specs.Lists.{in_append}

@@ -8,7 +8,7 @@ use mathlib.Core.List.{List, ◌++◌}
 use Rattle.document.specs.Lists.{In, keep_if}
 use Rattle.document.specs.Limits.{width}
 use Rattle.document.specs.Combinations.{includes}
-use Rattle.document.specs.OneEvent.{Kept, moves, moved_from, moved, kept_after}
+use Rattle.document.specs.OneEvent.{Kept, moved_from, moved, kept_after}
 use Rattle.basics.specs.Tests.{decided}
 use Rattle.basics.specs.Lists.{in_append}
 use Rattle.slices.specs.TestsLaws.{so, not_so, true_of, not_of, of_not}
@@ -18,7 +18,7 @@ use Rattle.slices.specs.MovesLaws.{Came, in_moved, kept_after_ascends}
 use Rattle.moves.specs.Steps.{in_place}
 use Rattle.moves.specs.Ready.{Right}
 use Rattle.moves.specs.MovesLaws.{in_place_moves}
-use Rattle.keeping.specs.Keeping.{sifted, grows, grown}
+use Rattle.keeping.specs.Keeping.{sifted, grown}
 use Rattle.keeping.specs.SiftedLaws.{settled-combination, Settles, in_sifted, sifted_ascends, sifted_right, settled_in, settled_out, remains_in, remains_out}
 use Rattle.keeping.specs.GrownLaws.{creates_of, Grows, grows_of, in_grown, grown_ascends, grows_when}
 

@@ -3,7 +3,7 @@
 use Rattle.std.specs.Prelude.{ℕ, ◌+◌, ◌*◌, ◌<◌, ◌≤◌, ◌≡◌, Bool, List, length, get_or}
 use Rattle.document.specs.Lists.{In}
 use Rattle.document.specs.Limits.{width, seen_stride, kept_stride, most_events, most_states}
-use Rattle.document.specs.OneEvent.{Kept, join_seen, moves}
+use Rattle.document.specs.OneEvent.{Kept, join_seen}
 use Rattle.document.specs.Tables.{seen_rows, seen_room, kept_room}
 use Rattle.slices.specs.OrderLaws.{Ascends, combinations}
 use Rattle.slices.specs.TablesLaws.{kept_at}

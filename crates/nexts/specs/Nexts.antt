@@ -1,11 +1,9 @@
 -- Document 01, "The table": the sets that the events lead to from a set, from the lists that a pattern's shape holds.
 -- Assumes nothing.
 use Rattle.std.specs.Prelude.{ℕ, zero, suc, cond, List, get_or}
-use mathlib.Core.List as list
 use Rattle.std.specs.Int.Bits.{bit_or, bit_and}
 use Rattle.document.specs.Lists.{tabulate}
 use Rattle.document.specs.Limits.{most_events, most_names}
-use Rattle.document.specs.Positions as positions
 use Rattle.document.specs.Positions.{holds}
 
 -- the numbers that can come next after a number of the set s, the first n looked at

@@ -3,7 +3,7 @@
 -- Assumes nothing.
 use Rattle.std.specs.Prelude.{ℕ, ◌+◌, ◌*◌, ◌≤◌, ◌<◌, ◌≡◌, List, length}
 use Rattle.document.specs.Limits.{most_names, most_open, most_events}
-use Rattle.document.specs.Refusals.{number, taken}
+use Rattle.document.specs.Refusals.{number}
 use Rattle.document.specs.Patterns.{Pattern, epsilon}
 use Rattle.document.specs.Tokens.{Lexeme, offset_of}
 use Rattle.document.specs.Reading.{Reading, read, stopped, marked}

@@ -8,7 +8,7 @@ use borrow.Author.Tests.{eqb-true, eqb-false, not-true, not-false}
 use Rattle.document.specs.Classes as byte
 use Rattle.document.specs.Patterns.{Pattern, alternative, sequence, star, plus}
 use Rattle.document.specs.Tokens.{mark, Lexeme, is_mark_of, begins_atom}
-use Rattle.document.specs.Reading.{Reading, read, stopped, next_is, join_reading, marked, marked_reading, more_alternatives, more_repetitions, read_alternative, read_sequence, read_repetition, read_atom}
+use Rattle.document.specs.Reading.{Reading, read, next_is, join_reading, marked, marked_reading, more_alternatives, more_repetitions, read_alternative, read_sequence, read_repetition, read_atom}
 use Rattle.basics.specs.Tests.{decided}
 use Rattle.sets.specs.declared.Shape.{Shape}
 use Rattle.sets.specs.Shapes.{shape_of, either_shape, then_shape, star_shape, plus_shape}

@@ -8,7 +8,7 @@ use Rattle.document.specs.Limits.{most_seen, most_kept, seen_stride, kept_stride
 use Rattle.document.specs.Refusals.{badProperty, noRoomForSeen, noRoomForKept, noRoomForReports, Answer, taken, refused, refuse_if}
 use Rattle.document.specs.Declarations.{Declared}
 use Rattle.document.specs.Property.{Property, in_range}
-use Rattle.document.specs.Tables.{kept_rows, kept_room, report_room}
+use Rattle.document.specs.Tables.{kept_room, report_room}
 use Rattle.document.specs.Session.{Session, Happened, session_with, lent_tables, first_kept, start, outcome, written, step_from, leaves}
 use Rattle.document.specs.Log.{row_event, step_row}
 use Rattle.document.specs.Printing.{program_session}

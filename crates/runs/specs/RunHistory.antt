@@ -8,7 +8,7 @@ use Rattle.document.specs.Refusals.{Answer, taken, refused}
 use Rattle.document.specs.Declarations.{Declared}
 use Rattle.document.specs.Property.{Property, in_range}
 use Rattle.document.specs.Histories.{Event}
-use Rattle.document.specs.Session.{Session, event}
+use Rattle.document.specs.Session.{Session}
 use Rattle.document.specs.Log.{RowEvent, row_event, agrees, row_at, next_at, Ran, ran_to, run_from}
 use Rattle.document.specs.Demands.{Holds, extended}
 use Rattle.rows.specs.RunsOfRows.{rows_in, Passes, at_once, row_first, passes_rows}

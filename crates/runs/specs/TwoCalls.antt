@@ -11,7 +11,7 @@ use Rattle.document.specs.Limits.{report_stride}
 use Rattle.document.specs.Refusals.{Refusal, taken, refused}
 use Rattle.document.specs.Declarations.{Declared}
 use Rattle.document.specs.Property.{Property}
-use Rattle.document.specs.Session.{Session, Happened, sound, step_from}
+use Rattle.document.specs.Session.{Session, Happened, step_from}
 use Rattle.document.specs.Log.{row_event, step_row, row_at, Ran, ran_to, run_from, judged, run}
 use Rattle.basics.specs.Answers.{past_call}
 use Rattle.rows.specs.RunsOfRows.{passes_within}

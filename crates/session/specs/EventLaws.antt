@@ -9,7 +9,7 @@ use Rattle.document.specs.Positions.{holds}
 use Rattle.document.specs.Refusals.{Answer}
 use Rattle.document.specs.Combinations.{binds_exactly}
 use Rattle.document.specs.Property.{Property, in_range, set_of}
-use Rattle.document.specs.Session.{Session, Happened, kept_of, sound, event, leaves, step_from}
+use Rattle.document.specs.Session.{Happened, kept_of, sound, event, leaves, step_from}
 use Rattle.words.specs.Range.{in_range_range}
 use Rattle.judge.specs.Sound.{sound_by, session_of}
 use Rattle.moves.specs.Ready.{Steady}

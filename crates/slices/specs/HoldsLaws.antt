@@ -9,7 +9,7 @@ use Rattle.document.specs.Limits.{width}
 use Rattle.document.specs.Combinations.{zero_past}
 use Rattle.document.specs.Histories.{Event, slice, IsBinding, join_all, Made}
 use Rattle.document.specs.OneEvent.{Kept}
-use Rattle.document.specs.Property.{Property, in_range, state_after, hopeful}
+use Rattle.document.specs.Property.{Property, in_range, state_after}
 use Rattle.document.specs.Session.{Session, seen_of, kept_of, keeps}
 use Rattle.document.specs.Demands.{Lists, itself, SeenIn, KeptIn, Proper, Holds}
 use Rattle.slices.specs.CombinationsLaws.{zero_past_empty, zero_past-join}

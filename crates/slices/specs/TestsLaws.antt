@@ -5,7 +5,6 @@ use Rattle.std.proofs.Common.{sym, ap₂, subst, inl, inr, arith, eqb→eq}
 use Rattle.std.proofs.Math.Decide.{ℕ_discrete}
 use Rattle.std.proofs.Math.Dec.{eqb_refl}
 use Rattle.document.specs.Lists.{In, every, every_below, some_below, equal, among, some}
-use Rattle.basics.specs.Tests.{both}
 
 -- a test holds or it does not
 pub so : {b : Bool} → b ≡ true → T b

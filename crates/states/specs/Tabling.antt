@@ -6,7 +6,6 @@ use Rattle.std.specs.Int.Bits.{bit_and}
 use Rattle.document.specs.Lists.{tabulate}
 use Rattle.document.specs.Limits.{most_events, most_states}
 use Rattle.document.specs.Patterns.{Pattern, match, fail, undecided}
-use Rattle.document.specs.Positions as positions
 use Rattle.document.specs.Positions.{holds, verdict_of}
 use Rattle.document.specs.States.{Found, states_of}
 use Rattle.sets.specs.declared.Shape.{Shape}

@@ -8,7 +8,7 @@ use Rattle.document.specs.Classes.{class_of, is_name_byte, letter, at_sign, open
 use Rattle.document.specs.Declarations.{name_run}
 use Rattle.document.specs.Tokens as doc
 use Rattle.document.specs.Tokens.{word, mark, ask, no_token, ask_token, token_at, offset_of, is_mark_of, begins_atom}
-use Rattle.document.specs.Reading.{next_is, past}
+use Rattle.document.specs.Reading.{next_is}
 use Rattle.basics.specs.Tests.{decided, both}
 use Rattle.basics.specs.Lists.{run-part}
 use Rattle.basics.specs.Left.{drop_here}

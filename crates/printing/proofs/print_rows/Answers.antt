@@ -31,15 +31,15 @@ loop-r-smaller c = way_less _ _ _ _ _ _ _ _ _ _ _ _ _ c.loop-r-test.true c.print
 
 pub loop-r-preserved : goal.loop-r-preserved
 loop-r-preserved c = let inv = c.loop-r.invariant in (
-      search rules,
-      search rules,
-      search rules,
-      search rules,
-      inv.4,
-      inv.5,
-      inv.6,
-      way_on _ _ _ _ _ _ inv.6 _ _ _ _ _ _ _ _ inv.7 _ _ inv.4 inv.5 _ c.loop-r-test.true c.row_fits.ensures c.if-not-row_fits.false-raw _ _ _ _ _ c.print_row-after.ensures,
-    )
+  search rules,
+  search rules,
+  search rules,
+  search rules,
+  inv.4,
+  inv.5,
+  inv.6,
+  way_on _ _ _ _ _ _ inv.6 _ _ _ _ _ _ _ _ inv.7 _ _ inv.4 inv.5 _ c.loop-r-test.true c.row_fits.ensures c.if-not-row_fits.false-raw _ _ _ _ _ c.print_row-after.ensures,
+)
 
 pub returns : goal.returns
 returns c = way_ended _ _ _ _ _ _ _ _ _ _ c.loop-r.invariant.7 c.loop-r-test.false
