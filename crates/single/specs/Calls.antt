@@ -1,8 +1,8 @@
 -- Document 01, "What the promises say": "Each public call's promise determines its answer and every lent number afterwards for
 -- every input, refused ones too; that this leaves a single answer is proved". A part for each call of the face, in the order of
 -- the document. `..Promise` is what a caller learns by the call's own contract, as the checker reads it off the code
--- (`Learnt`), of the answer and of what the lent numbers hold afterwards; `..-takes`: a caller has nothing to show (`Asked`);
--- `..-single`: two answers that meet the promise for the same arguments are equal, and so is what they leave. So a contract
+-- (`Learnt`), of the answer and of what the lent numbers hold afterwards; `.._takes`: a caller has nothing to show (`Asked`);
+-- `.._single`: two answers that meet the promise for the same arguments are equal, and so is what they leave. So a contract
 -- that came to ask for something, or to leave something open, would be refused here. What is lent to be read only stays by its
 -- type.
 -- Assumes nothing.
@@ -241,8 +241,8 @@ module _ (κs : Lfts 1) (text : Lent) (number : ℕ) where
   pub pattern_place_single : (r q : Part) → PatternPlacePromise r → PatternPlacePromise q → r ≡ q
   pattern_place_single r q x y = told_single x y
 
--- The reader holds a reference, so the checker reads no `Learnt` off its two calls: that `..Promise` is their contract is shown
--- by `..-promise`, in every model `w` of the checker's logic.
+-- The reader holds a reference, and its two calls' promises are written out: that `..Promise` is their contract is shown by
+-- `.._promise`, in every model `w` of the checker's logic.
 -- reader::reader_at(log, at): the log as it was lent, and the position
 module _ (log : Lent) (at : ℕ) where
   abbrev pub ReaderAtPromise : Reader → Type 0
