@@ -1,8 +1,8 @@
 -- Document 01, "What the promises say": "Each public call's promise determines its answer and every lent number afterwards for
 -- every input, refused ones too; that this leaves a single answer is proved". A part for each call of the face, in the order of
 -- the document. `..Promise` is what a caller learns by the call's own contract, as the checker reads it off the code
--- (`Learnt`), of the answer and of what the lent numbers hold afterwards; `..-takes`: a caller has nothing to show (`Asked`);
--- `..-single`: two answers that meet the promise for the same arguments are equal, and so is what they leave. So a contract
+-- (`Learnt`), of the answer and of what the lent numbers hold afterwards; `.._takes`: a caller has nothing to show (`Asked`);
+-- `.._single`: two answers that meet the promise for the same arguments are equal, and so is what they leave. So a contract
 -- that came to ask for something, or to leave something open, would be refused here. What is lent to be read only stays by its
 -- type.
 -- Assumes nothing.
@@ -11,7 +11,7 @@ use Rattle.std.proofs.Common.{sym, ap, ◌∙◌}
 use base.Logic.{emp}
 use contract.Monad.{fact}
 use contract.Lifetimes.{Lfts}
-use denote.Ref.{Bor, at_last as last}
+use denote.Ref.{Bor, MutBor, at_last as last}
 use borrow.Fn.World.{World}
 use Rattle.declared.specs.declared.Declared.{Declared}
 use Rattle.declared.proofs.declarations.Reads as declarations
@@ -51,10 +51,13 @@ use Rattle.printrow.specs.declared.Printed.{Printed}
 use Rattle.printing.proofs.print.Reads as print
 use Rattle.single.specs.Leaves.{part_at_single, told_single, checks_single, start_leaves_single, leaves_single, run_leaves_single, print_leaves_single}
 
--- bytes or numbers that the caller lends, and a part of them that is given back; `now` is what they hold, and `last seen seen'`
--- are the lent numbers `seen` when they hold seen' at last
+-- bytes or numbers that the caller lends to be read only, and a part of them that is given back; `now` is what they hold
 abbrev pub Lent : Type 0
 Lent = Bor (List ℕ)
+
+-- bytes or numbers that the caller lends to be written; `last seen seen'` are the lent numbers `seen` when they hold seen' at last
+abbrev pub MutLent : Type 0
+MutLent = MutBor (List ℕ)
 
 -- The declarations -----------------------------------------------------------------------------------------------------
 
@@ -107,7 +110,7 @@ module _ (κs : Lfts 0) (p : Property) where
 -- One event ------------------------------------------------------------------------------------------------------------
 
 -- starting::start(p, &mut seen, &mut kept)
-module _ (κs : Lfts 2) (p : Property) (seen kept : Lent) where
+module _ (κs : Lfts 2) (p : Property) (seen kept : MutLent) where
   abbrev pub StartPromise : Answered → List ℕ → List ℕ → Type 0
   StartPromise r seen' kept' = start.Learnt κs (p, (seen, (kept, tt))) r (p, (last seen seen', (last kept kept', tt)))
 
@@ -120,7 +123,7 @@ module _ (κs : Lfts 2) (p : Property) (seen kept : Lent) where
   start_single r q seen' seen'' kept' kept'' x y = start_leaves_single x y
 
 -- session::event(p, &mut seen, n, &mut kept, m, &mut reports, e, values)
-module _ (κs : Lfts 3) (p : Property) (seen : Lent) (n : ℕ) (kept : Lent) (m : ℕ) (reports : Lent) (e : ℕ)
+module _ (κs : Lfts 3) (p : Property) (seen : MutLent) (n : ℕ) (kept : MutLent) (m : ℕ) (reports : MutLent) (e : ℕ)
     (values : List ℕ) where
   abbrev pub EventPromise : Answered → List ℕ → List ℕ → List ℕ → Type 0
   EventPromise r seen' kept' reports' =
@@ -160,8 +163,8 @@ module _ (κs : Lfts 2) (declarations bytes : Lent) where
   header_single r q x y = x ∙ sym y
 
 -- logs::row(declarations, p, &mut seen, n, &mut kept, m, &mut reports, bytes)
-module _ (κs : Lfts 5) (declarations : Lent) (p : Property) (seen : Lent) (n : ℕ) (kept : Lent) (m : ℕ)
-    (reports bytes : Lent) where
+module _ (κs : Lfts 5) (declarations : Lent) (p : Property) (seen : MutLent) (n : ℕ) (kept : MutLent) (m : ℕ)
+    (reports : MutLent) (bytes : Lent) where
   abbrev pub RowPromise : Answered → List ℕ → List ℕ → List ℕ → Type 0
   RowPromise r seen' kept' reports' =
       row.Learnt κs (declarations, (p, (seen, (n, (kept, (m, (reports, (bytes, tt)))))))) r
@@ -238,8 +241,8 @@ module _ (κs : Lfts 1) (text : Lent) (number : ℕ) where
   pub pattern_place_single : (r q : Part) → PatternPlacePromise r → PatternPlacePromise q → r ≡ q
   pattern_place_single r q x y = told_single x y
 
--- The reader holds a reference, so the checker reads no `Learnt` off its two calls: that `..Promise` is their contract is shown
--- by `..-promise`, in every model `w` of the checker's logic.
+-- The reader holds a reference, and its two calls' promises are written out: that `..Promise` is their contract is shown by
+-- `.._promise`, in every model `w` of the checker's logic.
 -- reader::reader_at(log, at): the log as it was lent, and the position
 module _ (log : Lent) (at : ℕ) where
   abbrev pub ReaderAtPromise : Reader → Type 0
@@ -259,7 +262,7 @@ module _ (log : Lent) (at : ℕ) where
 
 -- reader::hand_out(&mut reader): whether there is a row, its bytes, where they lie, and the reader afterwards, also where there
 -- is none
-module _ (reader : Bor Reader) where
+module _ (reader : MutBor Reader) where
   abbrev pub HandOutPromise : Row → Reader → Type 0
   HandOutPromise h reader' =
       (reader'.log ≡ reader.now.log)
@@ -308,8 +311,8 @@ module _ (κs : Lfts 1) (log : Lent) (start end : ℕ) where
   part_single r q x y = part_at_single x y
 
 -- logs::run(declarations, p, &mut seen, n, &mut kept, m, &mut reports, log, at, budget)
-module _ (κs : Lfts 5) (declarations : Lent) (p : Property) (seen : Lent) (n : ℕ) (kept : Lent) (m : ℕ)
-    (reports log : Lent) (at budget : ℕ) where
+module _ (κs : Lfts 5) (declarations : Lent) (p : Property) (seen : MutLent) (n : ℕ) (kept : MutLent) (m : ℕ)
+    (reports : MutLent) (log : Lent) (at budget : ℕ) where
   abbrev pub RunPromise : Ran → List ℕ → List ℕ → List ℕ → Type 0
   RunPromise r seen' kept' reports' =
       run.Learnt κs (declarations, (p, (seen, (n, (kept, (m, (reports, (log, (at, (budget, tt)))))))))) r
@@ -326,11 +329,11 @@ module _ (κs : Lfts 5) (declarations : Lent) (p : Property) (seen : Lent) (n : 
 -- The program ----------------------------------------------------------------------------------------------------------
 
 -- printing::print(declarations, p, &mut seen, n, &mut kept, m, &mut reports, log, at, number, &mut text)
-module _ (κs : Lfts 6) (declarations : Lent) (p : Property) (seen : Lent) (n : ℕ) (kept : Lent) (m : ℕ)
-    (reports log : Lent) (at number : ℕ) (text : Lent) where
+module _ (κs : Lfts 6) (declarations : Lent) (p : Property) (seen : MutLent) (n : ℕ) (kept : MutLent) (m : ℕ)
+    (reports : MutLent) (log : Lent) (at number : ℕ) (text : MutLent) where
   abbrev pub PrintPromise : Printed → List ℕ → List ℕ → List ℕ → List ℕ → Type 0
   PrintPromise r seen' kept' reports' text' =
-      let rest : Lent × (ℕ × (ℕ × (Lent × Unit {0}))) = (log, (at, (number, (last text text', tt)))) in
+      let rest : Lent × (ℕ × (ℕ × (MutLent × Unit {0}))) = (log, (at, (number, (last text text', tt)))) in
       print.Learnt κs (declarations, (p, (seen, (n, (kept, (m, (reports, (log, (at, (number, (text, tt))))))))))) r
       (declarations, (p, (last seen seen', (n, (last kept kept', (m, (last reports reports', rest)))))))
 

@@ -29,7 +29,7 @@ use Rattle.gorrindatz.proofs.gorrindatz_lookup.Reads as lookup
 use Rattle.gorrindatz.proofs.gorrindatz_row.Reads as row
 use Rattle.gorrindatz.proofs.gorrindatz_run.Reads as run
 use Rattle.gorrindatz.proofs.gorrindatz_print.Reads as print
-use Rattle.single.specs.Calls.{Lent, DeclarationsPromise, HeaderPromise, FieldPlacePromise, EventPlacePromise, PatternPlacePromise, PlaceAtPromise, TranslatePromise, CheckPromise, StartPromise, EventPromise, LookupPromise, RowPromise, RunPromise, PrintPromise}
+use Rattle.single.specs.Calls.{Lent, MutLent, DeclarationsPromise, HeaderPromise, FieldPlacePromise, EventPlacePromise, PatternPlacePromise, PlaceAtPromise, TranslatePromise, CheckPromise, StartPromise, EventPromise, LookupPromise, RowPromise, RunPromise, PrintPromise}
 
 -- Texts ----------------------------------------------------------------------------------------------------------------
 
@@ -68,18 +68,19 @@ check_same κs p r = refl
 
 -- Sessions -------------------------------------------------------------------------------------------------------------
 
-module _ (p : Property) (seen kept : Lent) where
+module _ (p : Property) (seen kept : MutLent) where
   pub start_same : (κs : Lfts 2) (r : Answered) (seen' kept' : List ℕ)
       → start.Learnt κs (p, (seen, (kept, tt))) r (p, (last seen seen', (last kept kept', tt))) ≡ StartPromise κs p seen kept r seen' kept'
   start_same κs r seen' kept' = refl
 
-module _ (p : Property) (seen : Lent) (n : ℕ) (kept : Lent) (m : ℕ) where
-  pub event_same : (κs : Lfts 4) (κs' : Lfts 3) (reports : Lent) (e : ℕ) (values : Lent) (r : Answered) (seen' kept' reports' : List ℕ)
+module _ (p : Property) (seen : MutLent) (n : ℕ) (kept : MutLent) (m : ℕ) where
+  pub event_same : (κs : Lfts 4) (κs' : Lfts 3) (reports : MutLent) (e : ℕ) (values : Lent) (r : Answered) (seen' kept' reports' : List ℕ)
       → event.Learnt κs (p, (seen, (n, (kept, (m, (reports, (e, (values, tt)))))))) r
       (p, (last seen seen', (n, (last kept kept', (m, (last reports reports', (e, (values, tt))))))))
       ≡ EventPromise κs' p seen n kept m reports e values.now r seen' kept' reports'
   event_same κs κs' reports e values r seen' kept' reports' = refl
 
+module _ (p : Property) (seen : Lent) (n : ℕ) (kept : Lent) (m : ℕ) where
   pub lookup_same : (κs : Lfts 3) (κs' : Lfts 2) (c : Lent) (r : Looked)
       → lookup.Learnt κs (p, (seen, (n, (kept, (m, (c, tt)))))) r (p, (seen, (n, (kept, (m, (c, tt))))))
       ≡ LookupPromise κs' p seen n kept m c.now r
@@ -87,7 +88,7 @@ module _ (p : Property) (seen : Lent) (n : ℕ) (kept : Lent) (m : ℕ) where
 
 -- Logs -----------------------------------------------------------------------------------------------------------------
 
-module _ (declarations : Lent) (p : Property) (seen : Lent) (n : ℕ) (kept : Lent) (m : ℕ) (reports : Lent) where
+module _ (declarations : Lent) (p : Property) (seen : MutLent) (n : ℕ) (kept : MutLent) (m : ℕ) (reports : MutLent) where
   pub row_same : (κs : Lfts 5) (bytes : Lent) (r : Answered) (seen' kept' reports' : List ℕ)
       → row.Learnt κs (declarations, (p, (seen, (n, (kept, (m, (reports, (bytes, tt)))))))) r
       (declarations, (p, (last seen seen', (n, (last kept kept', (m, (last reports reports', (bytes, tt))))))))
@@ -100,7 +101,7 @@ module _ (declarations : Lent) (p : Property) (seen : Lent) (n : ℕ) (kept : Le
       ≡ RunPromise κs declarations p seen n kept m reports log at budget r seen' kept' reports'
   run_same κs log at budget r seen' kept' reports' = refl
 
-  pub print_same : (κs : Lfts 6) (log : Lent) (at number : ℕ) (text : Lent) (r : Printed) (seen' kept' reports' text' : List ℕ)
+  pub print_same : (κs : Lfts 6) (log : Lent) (at number : ℕ) (text : MutLent) (r : Printed) (seen' kept' reports' text' : List ℕ)
       → print.Learnt κs (declarations, (p, (seen, (n, (kept, (m, (reports, (log, (at, (number, (text, tt))))))))))) r
       (declarations, (p, (last seen seen', (n, (last kept kept', (m, (last reports reports', (log, (at, (number, (last text text', tt)))))))))))
       ≡ PrintPromise κs declarations p seen n kept m reports log at number text r seen' kept' reports' text'
