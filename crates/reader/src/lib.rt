@@ -1,6 +1,6 @@
 // A reader over a log held in memory hands out its rows one after another (document 01, "Log rows and the run").
-// The row splitter is the crate `rows`; `place_at` and `part` do all the work, on a plain slice and numbers. The struct holds
-// the log, so `reader_at` and `hand_out` are proved by hand, and do nothing but take it apart. The face: `reader_at`, `hand_out`.
+// The row splitter is the crate `rows`; `place_at` and `part` do all the work, on a plain slice and numbers, and `reader_at` and
+// `hand_out` do nothing but take the struct apart. The face: `reader_at`, `hand_out`.
 //
 //     let mut r = reader_at(b"a,1\r\nb,2", 0);
 //     hand_out(&mut r) is the row `a,1`, then `b,2`, then none.

@@ -16,14 +16,14 @@ use borrow.Fn.World.{World}
 use Rattle.declared.specs.declared.Declared.{Declared}
 use Rattle.declared.proofs.declarations.Reads as declarations
 use Rattle.declared.proofs.header.Reads as header
-use Rattle.declared.proofs.event_name.Reads as event_name_lem
+use Rattle.declared.proofs.event_name.Reads as event_name
 use Rattle.declared.proofs.pattern_name.Reads as pattern-name
 use Rattle.declared.proofs.event_place.Reads as event-place
 use Rattle.declared.proofs.pattern_place.Reads as pattern-place
 use Rattle.translate.specs.declared.Translated.{Translated}
 use Rattle.translate.proofs.translate.Reads as translate
 use Rattle.property.specs.declared.Property.{Property}
-use Rattle.property.proofs.in_range.Reads as in_range_lem
+use Rattle.property.proofs.in_range.Reads as in_range
 use Rattle.hopes.specs.declared.Checked.{Checked}
 use Rattle.hopes.proofs.check.Reads as check
 use Rattle.steps.specs.declared.Answered.{Answered}
@@ -88,9 +88,9 @@ module _ (κs : Lfts 2) (declarations pattern : Lent) where
 -- property::in_range(p)
 module _ (κs : Lfts 0) (p : Property) where
   abbrev pub InRangePromise : Bool → Type 0
-  InRangePromise r = in_range_lem.Learnt κs (p, tt) r (p, tt)
+  InRangePromise r = in_range.Learnt κs (p, tt) r (p, tt)
 
-  pub in_range_takes : in_range_lem.Asked κs (p, tt)
+  pub in_range_takes : in_range.Asked κs (p, tt)
   in_range_takes = tt
 
   pub in_range_single : (r q : Bool) → InRangePromise r → InRangePromise q → r ≡ q
@@ -178,7 +178,7 @@ module _ (κs : Lfts 5) (declarations : Lent) (p : Property) (seen : MutLent) (n
       → (r ≡ q) × (seen' ≡ seen'') × (kept' ≡ kept'') × (reports' ≡ reports'')
   row_single r q seen' seen'' kept' kept'' reports' reports'' x y = leaves_single x y
 
--- fields::field(row, number): the bytes of the part, and where it lies (`ptr`)
+-- fields::field(row, number): the bytes of the part, and where it lies (`ref_ptr`)
 module _ (κs : Lfts 1) (bytes : Lent) (number : ℕ) where
   abbrev pub FieldPromise : Lent → Type 0
   FieldPromise r = field.Learnt κs (bytes, (number, tt)) r (bytes, (number, tt))
@@ -203,9 +203,9 @@ module _ (κs : Lfts 1) (bytes : Lent) (number : ℕ) where
 -- declared::event_name(declarations, pattern, event), declared::pattern_name(declarations, pattern, at): the same
 module _ (κs : Lfts 2) (declarations pattern : Lent) (number : ℕ) where
   abbrev pub EventNamePromise : Lent → Type 0
-  EventNamePromise r = event_name_lem.Learnt κs (declarations, (pattern, (number, tt))) r (declarations, (pattern, (number, tt)))
+  EventNamePromise r = event_name.Learnt κs (declarations, (pattern, (number, tt))) r (declarations, (pattern, (number, tt)))
 
-  pub event_name_takes : event_name_lem.Asked κs (declarations, (pattern, (number, tt)))
+  pub event_name_takes : event_name.Asked κs (declarations, (pattern, (number, tt)))
   event_name_takes = tt
 
   pub event_name_single : (r q : Lent) → EventNamePromise r → EventNamePromise q → (r.now ≡ q.now) × (r.ref_ptr ≡ q.ref_ptr)
@@ -289,7 +289,7 @@ module _ (reader : MutBor Reader) where
         λ i. record { log = (x.0 ∙ sym y.0) i; at = z.1.1 i },
       )
 
--- reader::place_at(log, at) and reader::part(log, start, end): the same for callers whose code the checker walks by itself
+-- reader::place_at(log, at) and reader::part(log, start, end): the same for callers that hold no reader
 module _ (κs : Lfts 1) (log : Lent) (at : ℕ) where
   abbrev pub PlaceAtPromise : Place → Type 0
   PlaceAtPromise r = place_at.Learnt κs (log, (at, tt)) r (log, (at, tt))

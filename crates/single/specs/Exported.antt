@@ -1,6 +1,6 @@
--- What a host in C learns of each exported call (crates/gorrindatz) is what a caller of the crate beneath learns, word for word:
--- the promises of Calls.antt are theirs too, and so are the single answers. A combination, which C lends by a pointer, counts by
--- the numbers that it holds.
+-- What a caller of each call of crates/gorrindatz learns is what a caller of the crate beneath learns, word for word: the promises
+-- of Calls.antt are theirs too, and so are the single answers. A combination, which C lends by a pointer, counts by the numbers
+-- that it holds. The same of what crates/gorrindatz_c exports stands in its proofs/Exported.
 -- Assumes nothing.
 use Rattle.std.specs.Prelude.{ℕ, ◌≡◌, refl, List}
 use contract.Lifetimes.{Lfts}
@@ -18,7 +18,7 @@ use Rattle.printrow.specs.declared.Printed.{Printed}
 use Rattle.gorrindatz.proofs.gorrindatz_declarations.Reads as declarations
 use Rattle.gorrindatz.proofs.gorrindatz_header.Reads as header
 use Rattle.gorrindatz.proofs.gorrindatz_field.Reads as field
-use Rattle.gorrindatz.proofs.gorrindatz_event_name.Reads as event_name_lem
+use Rattle.gorrindatz.proofs.gorrindatz_event_name.Reads as event_name
 use Rattle.gorrindatz.proofs.gorrindatz_pattern_name.Reads as pattern-name
 use Rattle.gorrindatz.proofs.gorrindatz_row_at.Reads as row_at
 use Rattle.gorrindatz.proofs.gorrindatz_translate.Reads as translate
@@ -46,7 +46,7 @@ pub field_same : (κs : Lfts 1) (bytes : Lent) (number : ℕ) (r : Part)
 field_same κs bytes number r = refl
 
 pub event_name_same : (κs : Lfts 1) (text : Lent) (number : ℕ) (r : Part)
-    → event_name_lem.Learnt κs (text, (number, tt)) r (text, (number, tt)) ≡ EventPlacePromise κs text number r
+    → event_name.Learnt κs (text, (number, tt)) r (text, (number, tt)) ≡ EventPlacePromise κs text number r
 event_name_same κs text number r = refl
 
 pub pattern_name_same : (κs : Lfts 1) (text : Lent) (at : ℕ) (r : Part)

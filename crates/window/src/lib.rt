@@ -38,7 +38,7 @@ pub fn from(w: Window, at: usize) -> Window
     }
 }
 
-// A row that is printed as too long goes on: all but the last byte, which may be the CR of its line end, is let go (`Open-after`).
+// A row that is printed as too long goes on: all but the last byte, which may be the CR of its line end, is let go (`open_after`).
 // At the end of the log it goes on no further.
 pub fn inside_row(w: Window) -> Window
     ensures { (result.at ≤ result.held) × (result.held ≡ w.held) }
