@@ -1,6 +1,6 @@
 -- What a caller of each call of crates/gorrindatz learns is what a caller of the crate beneath learns, word for word: the promises
 -- of Calls.antt are theirs too, and so are the single answers. A combination, which C lends by a pointer, counts by the numbers
--- that it holds. The same of what crates/gorrindatz_c exports stands in its proofs/Exported.
+-- that it holds. That crates/gorrindatz_c exports the same promises stands in its proofs/Exported.
 -- Assumes nothing.
 use Rattle.std.specs.Prelude.{ℕ, ◌≡◌, refl, List}
 use contract.Lifetimes.{Lfts}
