@@ -1,9 +1,9 @@
 -- The rows past the last that may include the binding; and what the pass comes to is the outcome that document 01 gives, written
 -- down.
 -- Assumes nothing.
-use Rattle.std.specs.Prelude.{ℕ, ◌+◌, ◌-◌, ◌*◌, ◌/◌, ◌≤◌, ◌<◌, ◌≡◌, refl, Bool, false, not, ◌&&◌, List, ◌++◌, ltb, get_or, drop}
+use Rattle.std.specs.Prelude.{ℕ, ◌+◌, ◌-◌, ◌*◌, ◌/◌, ◌≤◌, ◌≡◌, refl, Bool, false, not, ◌&&◌, List, ◌++◌, ltb, get_or, drop, Result, Ok}
 use Rattle.std.proofs.Math.Path.{sym}
-use Rattle.std.proofs.Common.{ap, ap₂, ◌∙◌, ext_get_or, ltb-false, lt-ltb, le-ltb}
+use Rattle.std.proofs.Common.{ap, ap₂, ◌∙◌, ext_get_or, ltb-false}
 use mathlib.Core.List as list
 use native.Mathlib.Omega.{arith}
 use Rattle.std.proofs.Math.Decide.{dec_lt, ℕ_discrete}
@@ -12,8 +12,9 @@ use Rattle.std.proofs.lemmas.List.{length-map}
 use Rattle.std.proofs.lemmas.Bool.{not-false}
 use Rattle.document.specs.Limits.{width, kept_stride, report_stride}
 use Rattle.document.specs.OneEvent.{Kept, see, kept_after, reports_after}
-use Rattle.document.specs.Tables.{seen_rows, kept_rows, seen_room, kept_room, report_room, kept_table}
+use Rattle.document.specs.Tables.{seen_rows, kept_rows, report_room, kept_table}
 use Rattle.slices.specs.TestsLaws.{so, not_of, and_of}
+use Rattle.refusals.specs.declared.Refusal.{Refusal}
 use Rattle.ordered.specs.Writes.{ZeroIn}
 use Rattle.tables.specs.Tables.{kept_from}
 use Rattle.tables.specs.TablesLaws.{kept_move, kept_two, kept_rows_lem, length-kept_from}
@@ -21,8 +22,8 @@ use Rattle.tables.specs.WholeLaws.{kept_table_lem}
 use Rattle.moves.specs.Steps.{is_new, step_of, state_in, outcome_by}
 use Rattle.moves.specs.Ready.{Steady}
 use Rattle.moves.specs.ReadyLaws.{length-see}
-use Rattle.foreseen.specs.Foreseen.{counted, foreseen_of}
-use Rattle.foreseen.specs.ForeseenLaws.{refuses_none}
+use Rattle.foreseen.specs.Foreseen.{foreseen_of}
+use Rattle.foreseen.specs.ForeseenLaws.{foreseen_taken}
 use Rattle.foreseen.specs.declared.Foreseen.{Foreseen}
 use Rattle.keeping.specs.Keeping.{sifted}
 use Rattle.keeping.specs.SiftedLaws.{sifted_right}
@@ -39,14 +40,6 @@ use Rattle.advance.specs.Advancing.{Advanceable, Passing, Passable, Passes, Pass
 use Rattle.advance.specs.PassLaws.{passing_past}
 use Rattle.advance.specs.declared.Passed.{Passed}
 use Rattle.advance.specs.declared.Advanced.{Advanced}
-
--- Whether the event creates nothing and cannot be refused --------------------------------------------------------------
-
-pub applies_crowded : (room m r : ℕ) (g : Bool) → r ≡ room → r < m → false ≡ (not (ltb room m) && not g)
-applies_crowded room m r g q h = rw (lt-ltb room m (omega arith))
-
-pub applies_old : (room m r : ℕ) (f g : Bool) → r ≡ room → m ≤ r → f ≡ g → not f ≡ (not (ltb room m) && not g)
-applies_old room m r f g q h e = rw (le-ltb room m (omega arith), e)
 
 -- The whole pass -------------------------------------------------------------------------------------------------------
 
@@ -263,13 +256,8 @@ module _ (next : List ℕ) (states e n m from : ℕ) (b seen kept reports : List
       reports_to = reports-told;
     }
 
-    pub advanced_foreseen : ◌≡◌ {A = Foreseen} (record { refusal = 0; seen = n; kept = r.kept; reported = r.reported; fresh = false }) (foreseen_of next hopes asks from n m seen kept reports e b)
-    unfolding foreseen_of counted outcome_by
+    pub advanced_foreseen : ◌≡◌ {A = Result Foreseen Refusal} (Ok (record { seen = n; kept = r.kept; reported = r.reported; fresh = false })) (foreseen_of next hopes asks from n m seen kept reports e b)
+    unfolding foreseen_of outcome_by
     advanced_foreseen =
-        λ i. record {
-          refusal = refuses_none (length (see width b S)) (seen_room seen) (length after) (kept_room kept) (length tales) (report_room (drop from reports)) writable.sees writable.keeps.room writable.tells i;
-          seen = sym seen_count_lem i;
-          kept = sym after_count i;
-          reported = sym tales_count i;
-          fresh = sym old i;
-        }
+        (λ i. Ok (record { seen = sym seen_count_lem i; kept = sym after_count i; reported = sym tales_count i; fresh = sym old i }))
+        ∙ foreseen_taken from seen kept reports (is_new b S) (outcome_by next hopes asks S (kept_rows m kept) e b) writable.sees writable.keeps.room writable.tells

@@ -3,7 +3,7 @@
 use Prim.Native.Nat.{ℕ, ◌+◌, ◌-◌, ◌*◌, ◌/◌, ◌<◌, ◌≤◌}
 use Rattle.std.specs.Prelude.{◌≡◌, Bool, true, false, not, ◌&&◌, eqb, get_or, drop}
 use Rattle.std.proofs.Math.Path.{refl, sym, ap, ap₂}
-use Rattle.std.proofs.Common.{◌∙◌, inl, inr, zero-add}
+use Rattle.std.proofs.Common.{subst, ◌∙◌, inl, inr, zero-add}
 use mathlib.Core.List.{List, [], ◌∷◌, ◌++◌}
 use mathlib.Core.List as list
 use native.Mathlib.Omega.{arith}
@@ -24,8 +24,8 @@ use Rattle.ordered.specs.Writes.{Put}
 use Rattle.tables.specs.Tables.{kept_from}
 use Rattle.tables.specs.TablesLaws.{kept_more, kept_two, row_move}
 use Rattle.moves.specs.Steps.{step_of, state_in}
-use Rattle.keeping.specs.Keeping.{sifted, SettleReady, SettledRow}
-use Rattle.keeping.specs.SiftLaws.{settle_stays, settle_drops, settle_moves, sifting_ready, sifting_turn}
+use Rattle.keeping.specs.Keeping.{sifted, SettleReady}
+use Rattle.keeping.specs.SiftLaws.{settle_stays, settle_moves, sifting_ready, sifting_turn}
 use Rattle.writing.specs.Writing.{report_of}
 use Rattle.spans.specs.Spans.{Movable}
 use Rattle.inplace.specs.InPlace.{moved_on, told}
@@ -98,7 +98,7 @@ module _ (next verdicts : List ℕ) (states hopes asks e m from i o count : ℕ)
     passing_stays z kept' l p = record {
       able = u.able;
       sifts = sifting_turn next states hopes e m i o b kept₀ kept u.sifts kept' (o + 1) h l
-          (settle_stays next states hopes e i o b kept ready (numbers_at width kept (i * kept_stride)) f refl q (rw z) (get_or kept (i * kept_stride + width) 0) kept' refl p);
+          (settle_stays next states hopes e i o b kept ready f q (rw z) kept' p);
       same = u.same;
       tells = record {
         rows = u.tells.rows ∙ ap (list.map (report_of verdicts)) (sym (told_same z));
@@ -116,7 +116,7 @@ module _ (next verdicts : List ℕ) (states hopes asks e m from i o count : ℕ)
     unfolding report_of
     passing_moves z to r s kept' reports' p lr t lk v = record {
       able = u.able;
-      sifts = sifting_turn next states hopes e m i o b kept₀ kept u.sifts kept' s h lk moved_row;
+      sifts = sifting_turn next states hopes e m i o b kept₀ kept u.sifts kept' s h lk (settle_moves next states hopes e i o b kept ready f q (rw z) to kept' s p v);
       same = lr ∙ u.same;
       tells = record {
         rows = t.rows
@@ -133,16 +133,6 @@ module _ (next verdicts : List ℕ) (states hopes asks e m from i o count : ℕ)
       where
         row : List ℕ
         row = numbers_at width kept (i * kept_stride)
-
-        moved_row : SettledRow next hopes e i o b kept kept' s
-        moved_row = elim (decided (holds hopes to)) [
-          | inl g ↦
-              let w = v.goes g in
-              rw w.0 (settle_moves next states hopes e i o b kept ready row f refl q (rw z) to true kept' p (sym g) refl w.1)
-          | inr g ↦
-              let w = v.drops g in
-              rw (w.0, w.1) (settle_drops next states hopes e i o b kept ready row f refl q (rw z) to false p (sym g) refl)
-        ]
 
         report_of_lem : cons_if (holds asks to) (record { combination = row; state = get_or verdicts to 0 }) []
             ≡ list.map (report_of verdicts) (cons_if (holds asks to) (record { combination = row; state = to }) [])
@@ -222,8 +212,12 @@ module _ (next verdicts : List ℕ) (states hopes asks e m from low i o count : 
       let h = u.passing.able.inside in
       record { fewer = u.passing.sifts.fewer; within = u.passing.sifts.within; inside = omega arith; on = λ x p. f x (u.on x p) }
 
-  pub underway_ends : m ≤ i → PassesOn next verdicts states hopes asks e m from low b kept₀ kept reports₀ reports (record { row = i; left = o; reported = count })
-  underway_ends h = comes_to (λ x p. passing_ends next verdicts states hopes asks e m from i o count b x kept reports₀ reports p h)
+  pub underway_ends : m ≤ i → PassesOn next verdicts states hopes asks e m from low b kept₀ kept reports₀ reports (record { row = m; left = o; reported = count })
+  underway_ends h =
+      let w = u.passing.sifts.within in
+      let q : i ≡ m = omega arith in
+      subst (λ (x : ℕ). PassesOn next verdicts states hopes asks e m from low b kept₀ kept reports₀ reports (record { row = x; left = o; reported = count })) q
+      (comes_to (λ x p. passing_ends next verdicts states hopes asks e m from i o count b x kept reports₀ reports p h))
 
   pub underway_stops : i < m → (first : ℕ) (f : Bool) → first ≡ get_or b 0 0 → f ≡ (not (eqb first 0) && not (eqb (get_or kept (i * kept_stride) 0) first)) → f ≡ true
       → PassesOn next verdicts states hopes asks e m from low b kept₀ kept reports₀ reports (record { row = i; left = o; reported = count })

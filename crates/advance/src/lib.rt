@@ -8,12 +8,12 @@
 
 ghost use Rattle.std.specs.Prelude.{◌≡◌, not, ◌&&◌, drop, ltb};
 ghost use Rattle.document.specs.Tables.{seen_rows, report_room};
-ghost use Rattle.ordered.specs.Rows.{SeenInOrder};
 ghost use Rattle.moves.specs.Steps.{is_new};
 ghost use Rattle.advance.specs.Advancing.{Advanceable, Passable, PassesOn, AdvancesOn, Advances};
 
-use limits::{Combination, KEPT_STRIDE, Transitions, Verdicts, WIDTH};
+use limits::{Combination, KEPT_STRIDE, WIDTH};
 use moves::Known;
+use ordered::Seen;
 
 // Where a pass over the kept rows ended: the row that it stopped before, how many of the rows before that are left, and the
 // reports made.
@@ -32,30 +32,17 @@ pub struct Advanced {
 }
 
 // Whether the event creates nothing and there is room for a report of every kept row: then it cannot be refused.
-pub fn applies(
-    seen: &[u32],
-    n: usize,
-    m: usize,
-    reports: &[u32],
-    from: usize,
-    b: Combination,
-) -> bool
-    requires { SeenInOrder n seen.now }
-    ensures { result ≡ (not (ltb (report_room (drop from reports.now)) m) && not (is_new b (seen_rows n seen.now))) }
+pub fn applies(seen: Seen, m: usize, reports: &[u32], from: usize, b: Combination) -> bool
+    ensures { result ≡ (not (ltb (report_room (drop from reports.now)) m) && not (is_new b (seen_rows seen.entry.count seen.entry.numbers.now))) }
 {
-    if foreseen::report_room(reports, from) < m {
-        return false;
-    }
-    !moves::is_new(b, seen, n)
+    m <= foreseen::report_room(reports, from) && !moves::is_new(b, seen)
 }
 
 // All rows --------------------------------------------------------------------------------------------------------------
 
 // Every row from row `low` on that may include the binding: those before it are moved already.
 fn pass(
-    next: &Transitions,
-    verdicts: &Verdicts,
-    known: Known,
+    known: &Known,
     kept: &mut [u32],
     m: usize,
     reports: &mut [u32],
@@ -64,45 +51,40 @@ fn pass(
     b: Combination,
     low: usize,
 ) -> Passed
-    requires { Passable next.now verdicts.now known.states known.hopeful known.asked e m from b kept.old reports.old low }
-    ensures { PassesOn next.now verdicts.now known.states known.hopeful known.asked e m from low b kept.old kept.new reports.old reports.new result }
+    requires { Passable known.now.next known.now.verdicts known.now.states known.now.hopeful known.now.asked e m from b kept.old reports.old low }
+    ensures { PassesOn known.now.next known.now.verdicts known.now.states known.now.hopeful known.now.asked e m from low b kept.old kept.new reports.old reports.new result }
 {
     let first = b[0];
-    let mut i = low;
-    let mut o = low;
-    let mut count: usize = 0;
-    while i < m {
-        let at = i * KEPT_STRIDE;
+    let mut left = low;
+    let mut reported = 0;
+    for row in low..m {
+        let at = row * KEPT_STRIDE;
         if settling::lies_past(kept, at, first) {
             return Passed {
-                row: i,
-                left: o,
-                reported: count,
+                row,
+                left,
+                reported,
             };
         }
         if settling::includes_at(kept, at, b) {
-            let to = moves::next_state(next, kept[at + WIDTH], e);
-            count = settling::tell(verdicts, known.asked, kept, at, to, reports, from, count);
-            o = settling::settle(known.hopeful, kept, i, o, to);
-            i += 1;
+            let to = known.next_state(kept[at + WIDTH], e);
+            reported = settling::tell(known, kept, at, to, reports, from, reported);
+            left = settling::settle(known, kept, row, left, to);
         } else {
-            settling::stay(kept, i, o);
-            o += 1;
-            i += 1;
+            settling::stay(kept, row, left);
+            left += 1;
         }
     }
     Passed {
-        row: i,
-        left: o,
-        reported: count,
+        row: m,
+        left,
+        reported,
     }
 }
 
 // The rows from row `low` on, and those past the last that may include the binding: they move down by as many as were dropped.
 fn pass_on(
-    next: &Transitions,
-    verdicts: &Verdicts,
-    known: Known,
+    known: &Known,
     kept: &mut [u32],
     m: usize,
     reports: &mut [u32],
@@ -111,10 +93,10 @@ fn pass_on(
     b: Combination,
     low: usize,
 ) -> Advanced
-    requires { Passable next.now verdicts.now known.states known.hopeful known.asked e m from b kept.old reports.old low }
-    ensures { AdvancesOn next.now verdicts.now known.states known.hopeful known.asked e m from low b kept.old kept.new reports.old reports.new result }
+    requires { Passable known.now.next known.now.verdicts known.now.states known.now.hopeful known.now.asked e m from b kept.old reports.old low }
+    ensures { AdvancesOn known.now.next known.now.verdicts known.now.states known.now.hopeful known.now.asked e m from low b kept.old kept.new reports.old reports.new result }
 {
-    let a = pass(next, verdicts, known, kept, m, reports, from, e, b, low);
+    let a = pass(known, kept, m, reports, from, e, b, low);
     if a.left == a.row {
         return Advanced {
             kept: m,
@@ -131,10 +113,10 @@ fn pass_on(
 }
 
 // The kept rows after an event that creates nothing, and its reports from a report number on.
+// Stays: the event's number and its binding are two parameters, here and in `inplace`, since `moves::Event` also says whether the
+// binding is new, which nothing here asks.
 pub fn advance(
-    next: &Transitions,
-    verdicts: &Verdicts,
-    known: Known,
+    known: &Known,
     kept: &mut [u32],
     m: usize,
     reports: &mut [u32],
@@ -142,15 +124,15 @@ pub fn advance(
     e: usize,
     b: Combination,
 ) -> Advanced
-    requires { Advanceable next.now known.states e m from b kept.old reports.old }
-    ensures { Advances next.now verdicts.now known.hopeful known.asked e m from b kept.old kept.new reports.old reports.new result }
+    requires { Advanceable known.now.next known.now.states e m from b kept.old reports.old }
+    ensures { Advances known.now.next known.now.verdicts known.now.hopeful known.now.asked e m from b kept.old kept.new reports.old reports.new result }
 {
-    let w = inplace::move_in_place(next, known, kept, m, e, b);
+    let w = inplace::move_in_place(known, kept, m, e, b);
     if w.row == w.end {
         return Advanced {
             kept: m,
             reported: 0,
         };
     }
-    pass_on(next, verdicts, known, kept, m, reports, from, e, b, w.row)
+    pass_on(known, kept, m, reports, from, e, b, w.row)
 }

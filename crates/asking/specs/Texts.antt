@@ -1,30 +1,43 @@
 -- What the reader of a whole pattern text answers, tied to the definitions of document 01, "The pattern text".
 -- Assumes nothing.
-use Rattle.std.specs.Prelude.{ℕ, ◌≡◌, cond, List, eqb}
-use Rattle.document.specs.Refusals.{Answer, taken, refused, number}
-use Rattle.document.specs.Patterns.{Pattern, epsilon, match, fail}
+use Rattle.std.specs.Prelude.{ℕ, ◌≡◌, List, Option, None, Some, Result}
+use Rattle.document.specs.Patterns.{Pattern}
 use Rattle.document.specs.Reading as doc
-use Rattle.sets.specs.declared.Shape.{Shape}
 use Rattle.sets.specs.Shapes.{shape_of}
-use Rattle.tokens.specs.Lexing.{ask_match_kind, ask_fail_kind, lexemes_at}
+use Rattle.tokens.specs.declared.Kind.{Kind}
+use Rattle.tokens.specs.declared.Kind.TheVariants.{Word, Opening, Closing, Colon, Bar, Star, Plus, AskMatch, AskFail, Nothing, End}
+use Rattle.tokens.specs.Lexing.{lexemes_at}
 use Rattle.parts.specs.declared.Part.{Part}
+use Rattle.parts.specs.declared.Stopped.{Stopped}
+use Rattle.parts.specs.Parts.{AnsweredAs}
+use Rattle.verdicts.specs.declared.Verdict.{Verdict}
+use Rattle.verdicts.specs.declared.Verdict.TheVariants.{Match, Fail}
+use Rattle.verdicts.specs.Verdicts.{number}
 use Rattle.asking.specs.declared.Parsed.{Parsed}
 
-unfoldable pub refused_text : ℕ → ℕ → Parsed
-refused_text q at = record { refusal = q; at = at; asked = 0; shape = shape_of epsilon }
+-- what a text that is taken says: the verdicts asked for and the pattern's shape
+abbrev pub parsed_of : doc.Parsed → Parsed
+parsed_of t = record { asked = t.asked; shape = shape_of t.pattern }
 
-unfoldable pub taken_text : ℕ → Shape → Parsed
-taken_text v shape = record { refusal = 0; at = 0; asked = v; shape = shape }
+-- the verdict that a token of a kind asks for
+abbrev pub asked_by : Kind → Option Verdict
+asked_by AskMatch = Some Match
+asked_by AskFail = Some Fail
+asked_by Word = None
+asked_by Opening = None
+asked_by Closing = None
+asked_by Colon = None
+asked_by Bar = None
+asked_by Star = None
+asked_by Plus = None
+asked_by Nothing = None
+asked_by End = None
 
--- what a text's answer is: the number of a refusal and its offset, or the verdicts asked for and the pattern's shape
-abbrev pub parsed_of : Answer doc.Parsed → Parsed
-parsed_of (taken t) = taken_text t.asked (shape_of t.pattern)
-parsed_of (refused q at) = refused_text (number q) at
-
--- the verdict that a token of a kind asks for, or 0
-abbrev pub asked_by : ℕ → ℕ
-asked_by k = cond (eqb k ask_match_kind) match (cond (eqb k ask_fail_kind) fail 0)
+-- its number, or 0: `ask_of`, of a token
+abbrev pub asked_number : Option Verdict → ℕ
+asked_number None = 0
+asked_number (Some v) = number v
 
 -- r is what stands after the pattern a, whatever pattern has its shape
-pub record Asks (s : List ℕ) (a : Part) (r : Parsed) : Type 0 where
-  pub says : (x : Pattern) → a.shape ≡ shape_of x → r ≡ parsed_of (doc.read_asks s (doc.read x (lexemes_at s a.at) a.names))
+pub record Asks (s : List ℕ) (a : Part) (r : Result Parsed Stopped) : Type 0 where
+  pub says : (x : Pattern) → a.shape ≡ shape_of x → AnsweredAs parsed_of (doc.read_asks s (doc.read x (lexemes_at s a.at) a.names)) r

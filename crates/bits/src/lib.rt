@@ -3,7 +3,7 @@
 
 #![tactic(auto)]
 
-ghost use Rattle.std.specs.Prelude.{◌≡◌, cond, ◌<◌, ◌^◌};
+ghost use Rattle.std.specs.Prelude.{◌≡◌, ◌<◌, ◌^◌};
 ghost use Rattle.document.specs.Positions.{holds};
 ghost use Rattle.bits.specs.Bits.{meets};
 
@@ -12,7 +12,7 @@ pub fn has(set: u64, k: usize) -> bool
     requires { k < 64 }
     ensures { result ≡ holds set k }
 {
-    (set >> k) % 2 == 1
+    set >> k & 1 == 1
 }
 
 // The set of one number.
@@ -21,13 +21,6 @@ pub fn only(k: usize) -> u64
     ensures { result ≡ 2 ^ k }
 {
     1u64 << k
-}
-
-// A set where a test holds, else the empty set.
-pub fn set_if(test: bool, set: u64) -> u64
-    ensures { result ≡ cond test set 0 }
-{
-    if test { set } else { 0 }
 }
 
 // Whether two sets have a number in common.

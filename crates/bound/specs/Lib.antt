@@ -1,2 +1,3 @@
+pub mod LibraryLaws
 pub mod Restrictions
 pub mod RestrictionsLaws

@@ -12,7 +12,7 @@ use Rattle.slices.specs.TestsLaws.{so, not_so, and_of, of_and, or_of, of_or, of_
 use Rattle.bound.specs.Restrictions.{restricted_from, restricted}
 use Rattle.slices.specs.NumbersLaws.{Written, written_none, written-more, written_all}
 
--- The turns of the loop that writes a restriction ----------------------------------------------------------------------
+-- Its numbers ----------------------------------------------------------------------------------------------------------
 
 get_or_restricted : (k s : ℕ) (c : List ℕ) (j : ℕ) → j < length c → get_or (restricted_from k s c) j 0 ≡ cond (holds s (k + j)) (get_or c j 0) 0
 unfolding restricted_from
@@ -29,6 +29,10 @@ pub length-restricted : (s : ℕ) (c : List ℕ) → length (restricted s c) ≡
 unfolding restricted
 length-restricted s c = length-restricted_from 0 s c
 
+pub get_or_of_restricted : (s : ℕ) (c : List ℕ) (k : ℕ) → k < length c → get_or (restricted s c) k 0 ≡ cond (holds s k) (get_or c k 0) 0
+unfolding restricted
+get_or_of_restricted s c k h = get_or_restricted 0 s c k h ∙ ap (λ n. cond (holds s n) (get_or c k 0) 0) (omega arith)
+
 pub record Restricts (s : ℕ) (c out : List ℕ) (j : ℕ) : Type 0 where
   pub wide : length c ≡ width
   pub writes : Written (restricted s c) out j
@@ -38,11 +42,10 @@ restricts_begins s c out p q = record { wide = p; writes = written_none (restric
 
 pub restricts_turn : (s : ℕ) (c out : List ℕ) (j v : ℕ) → Restricts s c out j → j < width → v ≡ cond (holds s j) (get_or c j 0) 0
     → Restricts s c (set out j v) (j + 1)
-unfolding restricted
 restricts_turn s c out j v i h e = record {
   wide = i.wide;
-  writes = written-more (restricted_from 0 s c) out j v i.writes h
-      (e ∙ sym (get_or_restricted 0 s c j (let l = i.wide in omega arith) ∙ ap (λ n. cond (holds s n) (get_or c j 0) 0) (omega arith)));
+  writes = written-more (restricted s c) out j v i.writes h
+      (e ∙ sym (get_or_of_restricted s c j (let l = i.wide in omega arith)));
 }
 
 pub restricts_ends : (s : ℕ) (c out : List ℕ) (j : ℕ) → Restricts s c out j → width ≤ j → out ≡ restricted s c

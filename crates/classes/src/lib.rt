@@ -5,71 +5,81 @@
 
 ghost use Rattle.std.specs.Prelude.{◌≡◌};
 ghost use Rattle.document.specs.Classes.{class_of, is_letter, is_blank, is_name_byte};
+ghost use Rattle.classes.specs.Numbers.{number};
 
-pub const LETTER: u8 = 0;
+use Class::{
+    AtSign, Bar, Blank, Closing, Colon, Digit, Letter, Opening, Other, Plus, Star, Underscore,
+};
 
-pub const DIGIT: u8 = 1;
+// The classes, by their numbers: those of the marks stand together.
+#[derive(Clone, Copy, Debug, PartialEq, Eq)]
+pub enum Class {
+    Letter,
+    Digit,
+    Underscore,
+    Blank,
+    Opening,
+    Closing,
+    Colon,
+    Bar,
+    Star,
+    Plus,
+    AtSign,
+    Other,
+}
 
-pub const UNDERSCORE: u8 = 2;
+impl Class {
+    pub fn number(self) -> u8
+        ensures { result ≡ number self }
+    {
+        self as u8
+    }
+}
 
-pub const BLANK: u8 = 3;
-
-pub const OPENING: u8 = 4;
-
-pub const CLOSING: u8 = 5;
-
-pub const COLON: u8 = 6;
-
-pub const BAR: u8 = 7;
-
-pub const STAR: u8 = 8;
-
-pub const PLUS: u8 = 9;
-
-pub const AT_SIGN: u8 = 10;
-
-pub const OTHER: u8 = 11;
-
-const CLASSES: [u8; 256] = [
-    11, 11, 11, 11, 11, 11, 11, 11, 11, 3, 3, 11, 11, 3, 11, 11, 11, 11, 11, 11, 11, 11, 11, 11,
-    11, 11, 11, 11, 11, 11, 11, 11, 3, 11, 11, 11, 11, 11, 11, 11, 4, 5, 8, 9, 11, 11, 11, 11, 1,
-    1, 1, 1, 1, 1, 1, 1, 1, 1, 6, 11, 11, 11, 11, 11, 10, 0, 0, 0, 0, 0, 0, 0, 0, 0, 0, 0, 0, 0, 0,
-    0, 0, 0, 0, 0, 0, 0, 0, 0, 0, 0, 0, 11, 11, 11, 11, 2, 11, 0, 0, 0, 0, 0, 0, 0, 0, 0, 0, 0, 0,
-    0, 0, 0, 0, 0, 0, 0, 0, 0, 0, 0, 0, 0, 0, 11, 7, 11, 11, 11, 11, 11, 11, 11, 11, 11, 11, 11,
-    11, 11, 11, 11, 11, 11, 11, 11, 11, 11, 11, 11, 11, 11, 11, 11, 11, 11, 11, 11, 11, 11, 11, 11,
-    11, 11, 11, 11, 11, 11, 11, 11, 11, 11, 11, 11, 11, 11, 11, 11, 11, 11, 11, 11, 11, 11, 11, 11,
-    11, 11, 11, 11, 11, 11, 11, 11, 11, 11, 11, 11, 11, 11, 11, 11, 11, 11, 11, 11, 11, 11, 11, 11,
-    11, 11, 11, 11, 11, 11, 11, 11, 11, 11, 11, 11, 11, 11, 11, 11, 11, 11, 11, 11, 11, 11, 11, 11,
-    11, 11, 11, 11, 11, 11, 11, 11, 11, 11, 11, 11, 11, 11, 11, 11, 11, 11, 11, 11, 11, 11, 11, 11,
+static CLASSES: [Class; 256] = [
+    Other, Other, Other, Other, Other, Other, Other, Other, Other, Blank, Blank, Other, Other,
+    Blank, Other, Other, Other, Other, Other, Other, Other, Other, Other, Other, Other, Other,
+    Other, Other, Other, Other, Other, Other, Blank, Other, Other, Other, Other, Other, Other,
+    Other, Opening, Closing, Star, Plus, Other, Other, Other, Other, Digit, Digit, Digit, Digit,
+    Digit, Digit, Digit, Digit, Digit, Digit, Colon, Other, Other, Other, Other, Other, AtSign,
+    Letter, Letter, Letter, Letter, Letter, Letter, Letter, Letter, Letter, Letter, Letter, Letter,
+    Letter, Letter, Letter, Letter, Letter, Letter, Letter, Letter, Letter, Letter, Letter, Letter,
+    Letter, Letter, Other, Other, Other, Other, Underscore, Other, Letter, Letter, Letter, Letter,
+    Letter, Letter, Letter, Letter, Letter, Letter, Letter, Letter, Letter, Letter, Letter, Letter,
+    Letter, Letter, Letter, Letter, Letter, Letter, Letter, Letter, Letter, Letter, Other, Bar,
+    Other, Other, Other, Other, Other, Other, Other, Other, Other, Other, Other, Other, Other,
+    Other, Other, Other, Other, Other, Other, Other, Other, Other, Other, Other, Other, Other,
+    Other, Other, Other, Other, Other, Other, Other, Other, Other, Other, Other, Other, Other,
+    Other, Other, Other, Other, Other, Other, Other, Other, Other, Other, Other, Other, Other,
+    Other, Other, Other, Other, Other, Other, Other, Other, Other, Other, Other, Other, Other,
+    Other, Other, Other, Other, Other, Other, Other, Other, Other, Other, Other, Other, Other,
+    Other, Other, Other, Other, Other, Other, Other, Other, Other, Other, Other, Other, Other,
+    Other, Other, Other, Other, Other, Other, Other, Other, Other, Other, Other, Other, Other,
+    Other, Other, Other, Other, Other, Other, Other, Other, Other, Other, Other, Other, Other,
+    Other, Other, Other, Other, Other, Other, Other, Other, Other, Other, Other, Other, Other,
+    Other,
 ];
 
-pub fn class_of(b: u8) -> u8
-    ensures { result ≡ class_of b }
+pub fn class_of(b: u8) -> Class
+    ensures { number result ≡ class_of b }
 {
-    CLASSES[b as usize]
+    CLASSES[usize::from(b)]
 }
 
 pub fn is_letter(b: u8) -> bool
     ensures { result ≡ is_letter b }
 {
-    class_of(b) == LETTER
+    class_of(b) == Letter
 }
 
 pub fn is_blank(b: u8) -> bool
     ensures { result ≡ is_blank b }
 {
-    class_of(b) == BLANK
+    class_of(b) == Blank
 }
 
 pub fn is_name_byte(b: u8) -> bool
     ensures { result ≡ is_name_byte b }
 {
-    let c = class_of(b);
-    if c == LETTER {
-        return true;
-    }
-    if c == DIGIT {
-        return true;
-    }
-    c == UNDERSCORE
+    matches!(class_of(b), Letter | Digit | Underscore)
 }

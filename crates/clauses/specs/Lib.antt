@@ -1,2 +1,3 @@
+pub mod LibraryLaws
 pub mod Rows
 pub mod RowsLaws

@@ -17,16 +17,10 @@ pub fn rows_ascend(t: &[u32], stride: usize, n: usize) -> bool
     requires { Rows stride n t.now }
     ensures { result ≡ ascending (rows_of stride n t.now) }
 {
-    let mut i: usize = 1;
-    while i < n {
-        let low = bound::row_at(t, (i - 1) * stride);
-        let high = bound::row_at(t, i * stride);
-        if !combos::precedes(low, high) {
-            return false;
-        }
-        i += 1;
-    }
-    true
+    (1..n).all(|i| combos::precedes(
+        bound::row_at(t, (i - 1) * stride),
+        bound::row_at(t, i * stride),
+    ))
 }
 
 // Whether no seen row is empty.
@@ -34,14 +28,7 @@ pub fn rows_bound(t: &[u32], n: usize) -> bool
     requires { n * seen_stride ≤ length t.now }
     ensures { result ≡ every not_empty (rows_of seen_stride n t.now) }
 {
-    let mut i: usize = 0;
-    while i < n {
-        if combos::is_empty(bound::row_at(t, i * SEEN_STRIDE)) {
-            return false;
-        }
-        i += 1;
-    }
-    true
+    (0..n).all(|i| !combos::is_empty(bound::row_at(t, i * SEEN_STRIDE)))
 }
 
 // Whether the numbers of each row past the parameters are 0.
@@ -49,14 +36,7 @@ pub fn rows_within(t: &[u32], stride: usize, n: usize, parameters: usize) -> boo
     requires { Rows stride n t.now }
     ensures { result ≡ every (zero_past parameters) (rows_of stride n t.now) }
 {
-    let mut i: usize = 0;
-    while i < n {
-        if !bound::zero_past(parameters, bound::row_at(t, i * stride)) {
-            return false;
-        }
-        i += 1;
-    }
-    true
+    (0..n).all(|i| bound::zero_past(parameters, bound::row_at(t, i * stride)))
 }
 
 // Whether the numbers from a place up to another are 0.
@@ -64,12 +44,5 @@ pub fn zero_between(t: &[u32], from: usize, to: usize) -> bool
     requires { to ≤ length t.now }
     ensures { result ≡ zero_between from to t.now }
 {
-    let mut p = from;
-    while p < to {
-        if t[p] != 0 {
-            return false;
-        }
-        p += 1;
-    }
-    true
+    t[..to].iter().skip(from).all(|x| *x == 0)
 }

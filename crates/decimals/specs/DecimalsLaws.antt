@@ -1,6 +1,6 @@
 -- Laws of decimal numbers: how many digits there are, and that they are the last so many.
 -- Assumes nothing.
-use Rattle.std.specs.Prelude.{ℕ, zero, suc, ◌+◌, ◌/◌, ◌%◌, ◌^◌, ◌≤◌, ◌<◌, ◌≡◌, refl, ◌⊎◌, [], ◌∷◌, ◌++◌, length, ltb}
+use Rattle.std.specs.Prelude.{ℕ, zero, suc, ◌+◌, ◌*◌, ◌/◌, ◌%◌, ◌^◌, ◌≤◌, ◌<◌, ◌≡◌, refl, max, ◌⊎◌, [], ◌∷◌, ◌++◌, length, ltb}
 use Rattle.std.proofs.Common.{ap, inl, inr, arith, length-append, lt-ltb, le-ltb, ltb-true, ltb-false}
 use Rattle.std.proofs.Math.Nat.{pow-le-pow_right}
 use Rattle.document.specs.Classes.{zero_byte}
@@ -95,6 +95,18 @@ decimal_least n x l = digits_least (suc x) n x (omega arith) l
 pub decimal-some : (x : ℕ) → 0 < length (decimal x)
 unfolding decimal
 decimal-some x = digits-some (suc x) x (omega arith)
+
+-- by the largest power of ten that a number reaches; 0 has as many as 1
+pub decimal_count : (x k : ℕ) → 10 ^ k ≤ max x 1 → max x 1 < 10 * 10 ^ k → k + 1 ≡ length (decimal x)
+decimal_count zero zero l h =
+    let some = decimal-some 0 in
+    let most = decimal_most 1 0 (omega arith) (omega arith) in
+    omega arith
+decimal_count zero (suc k) l h = absurd (let p = pow-le-pow_right {n = 10} (omega arith) {i = 1} {j = suc k} (omega arith) in omega arith)
+decimal_count (suc x) k l h =
+    let least = decimal_least k (suc x) (omega arith) in
+    let most = decimal_most (suc k) (suc x) (omega arith) (omega arith) in
+    omega arith
 
 -- a number of 64 bits, a value (32 bits), a refusal (8 bits)
 pub decimal-usize : (x : ℕ) → x < 2 ^ 64 → length (decimal x) ≤ most_digits

@@ -1,4 +1,4 @@
--- The turns of the loops that count the digits of a number and write them.
+-- The digits of a number counted one at a time by powers of ten, and the turns of the loop that writes them.
 -- Assumes nothing.
 use Rattle.std.specs.Prelude.{ℕ, suc, ◌+◌, ◌-◌, ◌*◌, ◌/◌, ◌%◌, ◌^◌, ◌≤◌, ◌<◌, ◌≡◌, refl, List, length, set}
 use Rattle.std.proofs.Common.{sym, arith}
@@ -10,7 +10,7 @@ use Rattle.decimals.specs.WrittenLaws.{written_none, written_before, written_as}
 use Rattle.decimals.specs.Decimals.{without_last, last_digits, sure_digits}
 use Rattle.decimals.specs.DecimalsLaws.{decimal-last, decimal-some, decimal_least, decimal_most, decimal-usize}
 
--- The loop that counts digits: there are at least n, and the power is that of n digits.
+-- Counting: there are at least n, and the power is that of n digits.
 pub record Counting (x n power : ℕ) : Type 0 where
   pub some : 0 < n
   pub short : n ≤ sure_digits

@@ -5,6 +5,7 @@ use Rattle.std.specs.Prelude.{ℕ, suc, ◌+◌, ◌-◌, ◌≤◌, ◌<◌, �
 use Rattle.std.proofs.Common.{sym, ap, ◌∙◌, append_assoc, append-nil, arith, add-one, length-append, length-take, length-drop, take-append-drop, length-take-le, take-suc, take-suc-set, take_at, drop-drop}
 use Rattle.std.proofs.Math.Seq.{take-length, append_snoc, take-set-lt, drop-append-add}
 use Rattle.std.proofs.lemmas.List.{set_split, set-append_left}
+use borrow.Rule.Slice.PartMut.{put_mid}
 use Rattle.decimals.specs.Written.{Written}
 
 -- the length stays
@@ -26,6 +27,17 @@ pub written_byte : (at b : ℕ) (t : List ℕ) → at < length t → Written at 
 written_byte at b t h = record {
   text = set_split t at b h ∙ sym (append_snoc (take at t) b (drop (suc at) t)) ∙ rw (add-one at);
   ends = refl;
+  fits = omega arith;
+  few = omega arith;
+}
+
+-- a part of the text, written as a slice
+pub written_part : (at n : ℕ) (x t : List ℕ) → at + n ≤ length t → length x ≡ n → Written at n x t (put_mid at (at + n - at) t x) (at + n)
+written_part at n x t h e = record {
+  text =
+      let k : at + n - at ≡ length x = omega arith in
+      rw (k, drop-drop (length x) at t) (sym (append_assoc (take at t) x (drop (at + length x) t)));
+  ends = omega arith;
   fits = omega arith;
   few = omega arith;
 }
@@ -93,7 +105,7 @@ written_as at m k x y t t' w e = rw e at w
 pub written_within : (at m n k : ℕ) (x t t' : List ℕ) → Written at m x t t' k → m ≤ n → Written at n x t t' k
 written_within at m n k x t t' w h = record { text = w.text; ends = w.ends; fits = w.fits; few = let p = w.few in omega arith }
 
--- The loop that writes a word: its first i bytes stand.
+-- A word written byte by byte: its first i bytes stand.
 pub word_begins : (at : ℕ) (word t : List ℕ) → at + length word ≤ length t → Written at 0 (take 0 word) t t (at + 0)
 word_begins at word t h = let e : at + 0 ≡ at = omega arith in rw e (written_none at t (omega arith))
 

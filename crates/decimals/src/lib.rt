@@ -1,5 +1,7 @@
 // Bytes and whole numbers in decimal, written into lent bytes at a place; the place after them is given back.
 // Interior: the caller sees to the room.
+// Stays: a text and a place in it go along as two, since there is no heap: the text is the caller's fixed buffer, and `Written` says
+// of one place and the next what stands between.
 
 #![tactic(auto)]
 
@@ -8,10 +10,8 @@ ghost use Rattle.document.specs.Printing.{decimal};
 ghost use Rattle.decimals.specs.Written.{Written};
 ghost use Rattle.decimals.specs.Decimals.{last_digits};
 
-const ZERO: u8 = 48;
-
-// Ten to the power of it is the largest power of ten of 64 bits: a number that reaches it has one digit more, and no other has.
-pub const SURE_DIGITS: usize = 19;
+// How many digits a number of the machine can have.
+pub const MOST_DIGITS: usize = 20;
 
 // Bytes -----------------------------------------------------------------------------------------------------------------
 
@@ -29,33 +29,18 @@ pub fn put_bytes(text: &mut [u8], at: usize, word: &[u8]) -> usize
     requires { at + length word.now ≤ length text.old }
     ensures { Written at (length word.now) word.now text.old text.new result }
 {
-    let mut i: usize = 0;
-    while i < word.len() {
-        text[at + i] = word[i];
-        i += 1;
-    }
-    at + i
+    let end = at + word.len();
+    text[at..end].copy_from_slice(word);
+    end
 }
 
 // Numbers ---------------------------------------------------------------------------------------------------------------
 
-// How many digits a number has. Powers of ten are compared, so that the only divisions are those that give the digits.
+// How many digits a number has: 0 has one.
 pub fn digit_count(x: usize) -> usize
     ensures { result ≡ length (decimal x) }
 {
-    let mut n: usize = 1;
-    let mut power: usize = 10;
-    while n < SURE_DIGITS {
-        if x < power {
-            return n;
-        }
-        power *= 10;
-        n += 1;
-    }
-    if x < power {
-        return SURE_DIGITS;
-    }
-    SURE_DIGITS + 1
+    x.max(1).ilog10() as usize + 1
 }
 
 // Writes the last digits of a number, the very last first.
@@ -65,10 +50,8 @@ pub fn put_digits(text: &mut [u8], at: usize, count: usize, x: usize) -> usize
 {
     let end = at + count;
     let mut left = x;
-    let mut p = end;
-    while at < p {
-        p -= 1;
-        text[p] = ZERO + (left % 10) as u8;
+    for p in (at..end).rev() {
+        text[p] = b'0' + (left % 10) as u8;
         left /= 10;
     }
     end

@@ -3,7 +3,7 @@
 //
 //     declarations(b"event,bay\r\nfeed,1\r\n") has 1 parameter and 1 event, whose set is 1; event_name gives its part `feed`.
 
-#![tactic(auto)]
+#![tactic(auto, using(fields::specs::PlacesLaws::told_part))]
 
 ghost use Rattle.std.specs.Prelude.{◌≡◌, ◌+◌};
 ghost use Rattle.document.specs.Refusals.{refusal_of};
@@ -13,8 +13,10 @@ ghost use Rattle.declared.specs.Answers.{declared_of, event_start};
 
 use fields::Part;
 use limits::{EventSets, MOST_EVENTS};
+use refusals::Refusal;
 
 // What declarations say: a refusal's number and nothing else, or the counts, and for each event the set of its parameters.
+// Stays: a struct of C (`gorrindatz_declarations`), so a number stands for the refusal.
 #[repr(C)]
 #[derive(Clone, Copy)]
 pub struct Declared {
@@ -28,21 +30,23 @@ pub struct Declared {
 pub fn declarations(text: &[u8]) -> Declared
     ensures { result ≡ declared_of (declarations text.now) }
 {
-    let t = declaring::read(text);
-    if t.refusal != refusals::TAKEN {
-        return Declared {
-            refusal: t.refusal,
+    match declaring::read(text) {
+        Ok(t) => {
+            // Stays: an array of what a match binds gets no proof where it is put into a literal straight.
+            let sets = t.sets;
+            Declared {
+                refusal: 0,
+                parameters: t.parameters,
+                events: t.events,
+                sets,
+            }
+        }
+        Err(refusal) => Declared {
+            refusal: refusal.number(),
             parameters: 0,
             events: 0,
             sets: [0; MOST_EVENTS],
-        };
-    }
-    let sets = t.sets;
-    Declared {
-        refusal: refusals::TAKEN,
-        parameters: t.parameters,
-        events: t.events,
-        sets: sets,
+        },
     }
 }
 
@@ -50,64 +54,48 @@ pub fn declarations(text: &[u8]) -> Declared
 pub fn header(declarations: &[u8], row: &[u8]) -> u8
     ensures { result ≡ refusal_of (header declarations.now row.now) }
 {
-    let t = declaring::read(declarations);
-    if t.refusal != refusals::TAKEN {
-        return t.refusal;
+    match declaring::read(declarations) {
+        Ok(_) if row == &declarations[..rows::row_end(declarations, 0)] => 0,
+        Ok(_) => Refusal::HeaderDiffers.number(),
+        Err(refusal) => refusal.number(),
     }
-    let end = rows::row_end(declarations, 0);
-    if !fields::same(row, &declarations[0..end]) {
-        return refusals::HEADER_DIFFERS;
-    }
-    refusals::TAKEN
 }
 
 // Where the name of an event lies in the declarations, by its number.
 pub fn event_place(declarations: &[u8], event: usize) -> Part
     ensures { ToldAt declarations.now (event_start declarations.now event) (event_name declarations.now event) result }
 {
-    let t = declaring::read(declarations);
-    if t.refusal != refusals::TAKEN {
-        return Part { start: 0, size: 0 };
+    match declaring::read(declarations) {
+        Ok(t) if event < t.events => t.places[event],
+        _ => Part { start: 0, size: 0 },
     }
-    if t.events <= event {
-        return Part { start: 0, size: 0 };
-    }
-    let start = t.starts[event];
-    let size = t.sizes[event];
-    Part { start, size }
 }
 
 // The name of an event by its number, as a part of the declarations; where there is none, the empty part at their start.
+// Stays: both texts are lent here and in `pattern_name`, calls of the face whose single answers are proved
+// (`event_name_single`, `pattern_name_single`): the lifetime of the answer says of which text it is a part.
 pub fn event_name<'a, 'b>(declarations: &'a [u8], pattern: &'b [u8], event: usize) -> &'a [u8]
     ensures { PartAt declarations.entry (event_start declarations.now event) (event_name declarations.now event) result }
 {
-    let part = event_place(declarations, event);
-    let start = part.start;
-    let end = start + part.size;
-    &declarations[start..end]
+    event_place(declarations, event).of(declarations)
 }
 
 // Where the name at an offset of a pattern text lies in it.
 pub fn pattern_place(pattern: &[u8], at: usize) -> Part
     ensures { ToldAt pattern.now (place_from at (name_at pattern.now at)) (name_at pattern.now at) result }
 {
-    if pattern.len() <= at {
+    if pattern.len() <= at || !classes::is_letter(pattern[at]) {
         return Part { start: 0, size: 0 };
     }
-    if !classes::is_letter(pattern[at]) {
-        return Part { start: 0, size: 0 };
+    Part {
+        start: at,
+        size: names::name_end(pattern, at) - at,
     }
-    let end = names::name_end(pattern, at);
-    let size = end - at;
-    Part { start: at, size }
 }
 
 // The name at an offset of the pattern text, as a part of it; where there is none, the empty part at its start.
 pub fn pattern_name<'a, 'b>(declarations: &'a [u8], pattern: &'b [u8], at: usize) -> &'b [u8]
     ensures { PartAt pattern.entry (place_from at (name_at pattern.now at)) (name_at pattern.now at) result }
 {
-    let part = pattern_place(pattern, at);
-    let start = part.start;
-    let end = start + part.size;
-    &pattern[start..end]
+    pattern_place(pattern, at).of(pattern)
 }

@@ -5,53 +5,48 @@
 ghost use Rattle.std.specs.Prelude.{◌≤◌, length};
 ghost use Rattle.readings.specs.Readings.{Reads, Placed, RowReads};
 
+use fields::Part;
 use readings::Reading;
+use refusals::Refusal;
 
 // Bytes of declarations or of a pattern (refusal 1).
 pub const TEXT_BYTES: usize = 4096;
 
 // A reading with the event of the row at a place, or that row's refusal.
-fn with_row(text: &[u8], at: usize, t: Reading) -> Reading
+fn with_row(text: &[u8], at: usize, t: Reading) -> Result<Reading, Refusal>
     requires { Placed text.now t × (at ≤ length text.now) }
     ensures { RowReads text.now at t result }
 {
     let end = rows::row_end(text, at);
-    let row = &text[at..end];
-    let f = fields::split(row);
-    let refusal = rowrules::event_refusal(text, t, row, f);
-    if refusal != refusals::TAKEN {
-        return readings::none_read(refusal, 0);
-    }
-    let start = at + f.starts[0];
-    readings::one_more(t, start, f.sizes[0], names::set_of(row, f))
+    let row = fields::split(&text[at..end]);
+    rowrules::event_refusal(text, t, &row)?;
+    let name = row.fields.places[0];
+    let place = Part {
+        start: at + name.start,
+        size: name.size,
+    };
+    Ok(readings::one_more(t, place, names::set_of(&row)))
 }
 
 // Declarations as they stand in their text.
-pub fn read(text: &[u8]) -> Reading
+pub fn read(text: &[u8]) -> Result<Reading, Refusal>
     ensures { Reads text.now result }
 {
     if TEXT_BYTES < text.len() {
-        return readings::none_read(refusals::TEXT_TOO_LONG, 0);
+        return Err(Refusal::TextTooLong);
     }
     let end = rows::row_end(text, 0);
-    let row = &text[0..end];
-    let f = fields::split(row);
-    let refusal = rowrules::header_refusal(row, f);
-    if refusal != refusals::TAKEN {
-        return readings::none_read(refusal, 0);
-    }
-    let mut t = readings::none_read(refusals::TAKEN, f.count - 1);
+    let header = fields::split(&text[..end]);
+    rowrules::header_refusal(&header)?;
+    let mut t = readings::none_read(header.fields.count - 1);
     let mut at = rows::next_row(text, 0);
+    // Stays: it goes from row to row, whose ends no range says.
     while at < text.len() {
-        let more = with_row(text, at, t);
-        if more.refusal != refusals::TAKEN {
-            return readings::none_read(more.refusal, 0);
-        }
-        t = more;
+        t = with_row(text, at, t)?;
         at = rows::next_row(text, at);
     }
     if t.events == 0 {
-        return readings::none_read(refusals::OVER_LIMITS, 0);
+        return Err(Refusal::OverLimits);
     }
-    t
+    Ok(t)
 }

@@ -1,3 +1,2 @@
 pub mod Entries
-pub mod EntriesLaws
 pub mod RowLaws

@@ -3,76 +3,42 @@
 
 #![tactic(auto)]
 
-ghost use Rattle.std.specs.Prelude.{◌≡◌, ◌≤◌, replicate};
-ghost use Rattle.document.specs.Limits.{width, most_events};
+ghost use Rattle.std.specs.Prelude.{◌≡◌, ◌≤◌};
+ghost use Rattle.document.specs.Limits.{width};
 ghost use Rattle.document.specs.Log.{row_event};
-ghost use Rattle.places.specs.NamesAt.{Inside};
-ghost use Rattle.entries.specs.Entries.{declared_at, entry_of};
+ghost use Rattle.entries.specs.Entries.{declared_at, row_said};
 
-use limits::{Combination, EventSets, Places, WIDTH};
+use limits::{Combination, EventSets};
+use places::Names;
+use refusals::Refusal;
 
 pub const ROW_BYTES: usize = 128;
 
-// A row's event and values; or the number of its refusal, and zeros.
+// A row's event and values.
 #[derive(Clone, Copy)]
 pub struct Entry {
-    pub refusal: u8,
     pub event: usize,
     pub values: Combination,
 }
 
-fn wide(x: u8) -> u64
-    ensures { result ≡ x }
-{
-    x as u64
-}
-
-fn refused(refusal: u8) -> Entry
-    ensures { result ≡ record { refusal = refusal; event = 0; values = replicate width 0 } }
-{
-    Entry {
-        refusal,
-        event: 0,
-        values: [0u32; WIDTH],
-    }
-}
-
-// The event and values that a row says, for declarations whose event names stand in the text at these places.
-pub fn read_row<'a, 'b, 'c>(
-    text: &'a [u8],
-    starts: &'b Places,
-    sizes: &'b Places,
-    sets: &'b EventSets,
-    events: usize,
+// The event and values that a row says, for declarations whose events have these names and sets.
+pub fn read_row(
+    names: &Names,
+    sets: &EventSets,
     parameters: usize,
-    row: &'c [u8],
-) -> Entry
-    requires { Inside text.now starts.now sizes.now × ((events ≤ most_events) × (parameters ≤ width)) }
-    ensures { result ≡ entry_of (row_event (declared_at text.now starts.now sizes.now sets.now events parameters) row.now) }
+    row: &[u8],
+) -> Result<Entry, Refusal>
+    requires { parameters ≤ width }
+    ensures { row_event (declared_at names.now.text.now names.now.places.now sets.now names.now.count parameters) row.now ≡ row_said result }
 {
-    if ROW_BYTES < row.len() {
-        return refused(refusals::BAD_ROW);
-    }
-    if rowfields::fields_said(row) != parameters + 1 {
-        return refused(refusals::BAD_ROW);
+    if ROW_BYTES < row.len() || rowfields::fields_said(row) != Some(parameters + 1) {
+        return Err(Refusal::BadRow);
     }
     let end = fields::field_end(row, 0);
-    let name = &row[0..end];
-    let event = places::find(text, starts, sizes, events, name);
-    if events <= event {
-        return refused(refusals::UNKNOWN_EVENT);
+    let event = names.find(&row[..end]).ok_or(Refusal::UnknownEvent)?;
+    let values = rowfields::values_said(row, end, parameters).ok_or(Refusal::BadValue)?;
+    if !bound::binds_exactly(u64::from(sets[event]), values) {
+        return Err(Refusal::WrongFields);
     }
-    let v = rowfields::values_said(row, end, parameters);
-    if v.bad {
-        return refused(refusals::BAD_VALUE);
-    }
-    let values = v.values;
-    if !bound::binds_exactly(wide(sets[event]), values) {
-        return refused(refusals::WRONG_FIELDS);
-    }
-    Entry {
-        refusal: refusals::TAKEN,
-        event,
-        values,
-    }
+    Ok(Entry { event, values })
 }

@@ -1,6 +1,6 @@
 -- Laws that link what `split` answers with the fields of the row: how many there are, and where each stands.
 -- Assumes nothing.
-use Rattle.std.specs.Prelude.{ℕ, zero, suc, ◌+◌, ◌-◌, ◌≤◌, ◌<◌, ◌≡◌, refl, true, false, cond, List, [], ◌∷◌, length, get_or, take, drop, set, leb}
+use Rattle.std.specs.Prelude.{ℕ, zero, suc, ◌+◌, ◌≤◌, ◌<◌, ◌≡◌, refl, true, false, cond, List, [], ◌∷◌, length, get_or, set, leb}
 use Rattle.std.proofs.Common.{sym, ap, ◌∙◌, inl, inr, length-set, get_or-set_same, get_or-set_other, arith, leb-true, leb-false}
 use Rattle.std.proofs.lemmas.List.{length-map}
 use Rattle.std.proofs.Math.ListN.{get_or-map}
@@ -8,8 +8,9 @@ use Rattle.std.proofs.lemmas.Bool.{lt-leb}
 use Rattle.document.specs.Rows.{Part, parts, part_of, fields, field}
 use Rattle.basics.specs.Tests.{decided}
 use Rattle.fields.specs.declared.Fields.{Fields}
-use Rattle.fields.specs.Split.{most_fields, added, collected, no_fields, Split}
-use Rattle.fields.specs.Places.{no_part}
+use Rattle.fields.specs.Split.{most_fields, as_told, added, collected, no_fields, Split}
+use Rattle.fields.specs.declared.Part.{Part as Told}
+use Rattle.fields.specs.Places.{place_at, told, no_part}
 use Rattle.fields.specs.SplitLaws.{field_there}
 
 -- a count that goes no further than one past what a row can have
@@ -19,10 +20,10 @@ pub record Counts (n count : ℕ) : Type 0 where
 
 -- one field more, where there is a place for it and where there is none
 abbrev placed : Fields → Part → Fields
-placed f p = record { count = f.count + 1; starts = set f.starts f.count p.start; sizes = set f.sizes f.count p.size }
+placed f p = record { count = f.count + 1; places = set f.places f.count (as_told p) }
 
 abbrev counted : Fields → Fields
-counted f = record { count = most_fields + 1; starts = f.starts; sizes = f.sizes }
+counted f = record { count = most_fields + 1; places = f.places }
 
 collected_few : (f : Fields) (p : Part) (l : List Part) → leb most_fields f.count ≡ false → collected f (p ∷ l) ≡ collected (placed f p) l
 unfolding collected added
@@ -58,47 +59,35 @@ collected_count f (p ∷ l) h = elim (decided (leb most_fields f.count)) [
 ]
 
 -- what has a place keeps it
-pub record Same (k : ℕ) (f g : Fields) : Type 0 where
-  pub start : get_or f.starts k 0 ≡ get_or g.starts k 0
-  pub size : get_or f.sizes k 0 ≡ get_or g.sizes k 0
-
-collected-keeps : (f : Fields) (l : List Part) (k : ℕ) → f.count ≤ most_fields + 1 → k < f.count → Same k (collected f l) f
-collected-keeps f [] k m h = rw (collected_none f) (record { start = refl; size = refl })
+collected-keeps : (f : Fields) (l : List Part) (k : ℕ) → f.count ≤ most_fields + 1 → k < f.count
+    → place_at (collected f l).places k ≡ place_at f.places k
+collected-keeps f [] k m h = rw (collected_none f)
 collected-keeps f (p ∷ l) k m h = elim (decided (leb most_fields f.count)) [
   | inl e ↦
       let g = counted f in
       let i = collected-keeps g l k (omega arith) (omega arith) in
-      rw (collected-many f p l e) (record { start = i.start; size = i.size })
+      rw (collected-many f p l e) i
   | inr e ↦
       let g = placed f p in
       let j = leb-false most_fields f.count e in
       let i = collected-keeps g l k (omega arith) (omega arith) in
       let n : (k ≡ f.count → ⊥) = λ (q : k ≡ f.count). omega arith in
-      rw (collected_few f p l e) (record {
-        start = i.start ∙ get_or-set_other f.starts f.count k p.start 0 n;
-        size = i.size ∙ get_or-set_other f.sizes f.count k p.size 0 n;
-      })
+      rw (collected_few f p l e) (i ∙ get_or-set_other f.places f.count k (as_told p) (record { start = 0; size = 0 }) n)
 ]
 
 -- and one that is added gets the place after those before it
-pub record Stands (k : ℕ) (f : Fields) (p : Part) : Type 0 where
-  pub start : get_or f.starts k 0 ≡ p.start
-  pub size : get_or f.sizes k 0 ≡ p.size
-
-collected_at : (f : Fields) (l : List Part) (j : ℕ) → length f.starts ≡ most_fields → length f.sizes ≡ most_fields
-    → j < length l → f.count + j < most_fields → Stands (f.count + j) (collected f l) (get_or l j no_part)
-collected_at f [] j a b h m = absurd (omega arith)
-collected_at f (p ∷ l) zero a b h m =
+collected_at : (f : Fields) (l : List Part) (j : ℕ) → length f.places ≡ most_fields
+    → j < length l → f.count + j < most_fields → place_at (collected f l).places (f.count + j) ≡ as_told (get_or l j no_part)
+collected_at f [] j a h m = absurd (omega arith)
+collected_at f (p ∷ l) zero a h m =
     let i = collected-keeps (placed f p) l f.count (omega arith) (omega arith) in
     let z : f.count + 0 ≡ f.count = omega arith in
-    rw (collected_few f p l (lt-leb most_fields f.count (omega arith)), z) (record {
-      start = i.start ∙ get_or-set_same f.starts f.count p.start 0 (omega arith);
-      size = i.size ∙ get_or-set_same f.sizes f.count p.size 0 (omega arith);
-    })
-collected_at f (p ∷ l) (suc j) a b h m =
+    rw (collected_few f p l (lt-leb most_fields f.count (omega arith)), z)
+    (i ∙ get_or-set_same f.places f.count (as_told p) (record { start = 0; size = 0 }) (omega arith))
+collected_at f (p ∷ l) (suc j) a h m =
     let z : f.count + suc j ≡ f.count + 1 + j = omega arith in
     rw (collected_few f p l (lt-leb most_fields f.count (omega arith)), z)
-    (collected_at (placed f p) l j (length-set f.starts f.count p.start ∙ a) (length-set f.sizes f.count p.size ∙ b) (omega arith) (omega arith))
+    (collected_at (placed f p) l j (length-set f.places f.count (as_told p) ∙ a) (omega arith) (omega arith))
 
 -- The fields of a row that was split.
 pub fields-length : (row : List ℕ) → length (fields row) ≡ length (parts row)
@@ -123,27 +112,21 @@ split-some row f s = elim (decided (leb f.count most_fields)) [
 
 -- each field is the part of the row that its place says
 pub split_at : (row : List ℕ) (f : Fields) (k : ℕ) → Split row f → k < f.count → f.count ≤ most_fields
-    → take (get_or f.sizes k 0) (drop (get_or f.starts k 0) row) ≡ field row k
+    → told row (place_at f.places k) ≡ field row k
 unfolding field fields part_of
 split_at row f k s h m =
     let c : length (fields row) ≡ f.count = (split_counts row f s).few m in
     let n = fields-length row in
-    let i = collected_at no_fields (parts row) k refl refl (omega arith) (omega arith) in
+    let i = collected_at no_fields (parts row) k refl (omega arith) (omega arith) in
     let z : 0 + k ≡ k = omega arith in
     let j = rw (z, ← s.is) at i in
-    rw (j.start, j.size) (sym (get_or-map (part_of row) (parts row) k no_part))
+    rw j (sym (get_or-map (part_of row) (parts row) k no_part))
 
 -- the first field stands at the row's start
-pub split_first : (row : List ℕ) (f : Fields) → Split row f → get_or f.starts 0 0 ≡ 0
+pub split_first : (row : List ℕ) (f : Fields) → Split row f → (place_at f.places 0).start ≡ 0
 unfolding parts
 split_first row f s =
     let n = fields-length row in
     let m = fields-some row in
-    let i = collected_at no_fields (parts row) 0 refl refl (omega arith) (omega arith) in
-    rw (← s.is) at i.start ∙ ap (λ l. (get_or l 0 no_part).start) (field_there row 0)
-
-pub split-part : (row : List ℕ) (f : Fields) (k : ℕ) → Split row f → k < f.count → f.count ≤ most_fields
-    → take (get_or f.starts k 0 + get_or f.sizes k 0 - get_or f.starts k 0) (drop (get_or f.starts k 0) row) ≡ field row k
-split-part row f k s h m =
-    let e : get_or f.starts k 0 + get_or f.sizes k 0 - get_or f.starts k 0 ≡ get_or f.sizes k 0 = omega arith in
-    rw e (split_at row f k s h m)
+    let i = collected_at no_fields (parts row) 0 refl (omega arith) (omega arith) in
+    ap (λ (p : Told). p.start) (rw (← s.is) at i) ∙ ap (λ l. (get_or l 0 no_part).start) (field_there row 0)

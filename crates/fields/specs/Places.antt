@@ -6,6 +6,14 @@ use Rattle.std.specs.Borrow.{Bor}
 use Rattle.document.specs.Rows.{Part, parts}
 use Rattle.fields.specs.declared.Part.{Part as Told}
 
+-- the k-th of some places, each told by where it starts and how long it is; past the last, the empty one at the start
+abbrev pub place_at : List Told → ℕ → Told
+place_at places k = get_or places k (record { start = 0; size = 0 })
+
+-- the part of a text that a place tells
+abbrev pub told : List ℕ → Told → List ℕ
+told text p = take p.size (drop p.start text)
+
 -- r holds these bytes, and lies at that place of what was lent
 pub record PartAt (lent : Bor (List ℕ)) (start : ℕ) (bytes : List ℕ) (r : Bor (List ℕ)) : Type 0 where
   pub holds : r.now ≡ bytes

@@ -1,17 +1,21 @@
--- The turns of the loop that compares two parts.
+-- What `==` answers of two parts is what the definitions call equal.
 -- Assumes nothing.
-use Rattle.std.specs.Prelude.{ℕ, ◌+◌, ◌≤◌, ◌<◌, ◌≡◌, true, false, List, length, get_or, drop}
-use Rattle.std.proofs.Common.{sym, ◌∙◌}
+use Rattle.std.specs.Prelude.{ℕ, ◌≡◌, refl, Bool, true, false, not, ◌&&◌, List, [], ◌∷◌, eqb}
+use Rattle.std.proofs.Common.{sym, ap, ◌∙◌}
+use Rattle.std.proofs.lemmas.Bool.{not-true, not-false}
+use lib.Pointwise.{pointwise}
 use Rattle.document.specs.Lists.{equal}
-use Rattle.basics.specs.Left.{equal_over, equal_differs, equal_goes_on}
 
-pub same_differs : (a b : List ℕ) (i : ℕ) → equal (drop i a) (drop i b) ≡ equal a b → length a ≡ length b → i < length a
-    → (get_or a i 0 ≡ get_or b i 0 → ⊥) → false ≡ equal a b
-same_differs a b i q l h d = sym (equal_differs a b i l h d) ∙ q
+pub equal_is : (a b : List ℕ) → equal a b ≡ pointwise eqb a b
+unfolding equal
+equal_is [] [] = refl
+equal_is [] (y ∷ b) = refl
+equal_is (x ∷ a) [] = refl
+equal_is (x ∷ a) (y ∷ b) = ap (λ t. eqb x y && t) (equal_is a b)
 
-pub same_turn : (a b : List ℕ) (i : ℕ) → equal (drop i a) (drop i b) ≡ equal a b → length a ≡ length b → i < length a
-    → get_or a i 0 ≡ get_or b i 0 → equal (drop (i + 1) a) (drop (i + 1) b) ≡ equal a b
-same_turn a b i q l h e = sym (equal_goes_on a b i l h e) ∙ q
+-- and `!=` that they are not
+pub unequal_is : (a b : List ℕ) (d : Bool) → d ≡ not (pointwise eqb a b) → d ≡ true → equal a b ≡ false
+unequal_is a b d q e = equal_is a b ∙ not-true (pointwise eqb a b) (sym q ∙ e)
 
-pub same_over : (a b : List ℕ) (i : ℕ) → equal (drop i a) (drop i b) ≡ equal a b → length a ≡ length b → length a ≤ i → true ≡ equal a b
-same_over a b i q l h = sym (equal_over a b i l h) ∙ q
+pub equal_after : (a b : List ℕ) (d : Bool) → d ≡ not (pointwise eqb a b) → d ≡ false → equal a b ≡ true
+equal_after a b d q e = equal_is a b ∙ not-false (pointwise eqb a b) (sym q ∙ e)

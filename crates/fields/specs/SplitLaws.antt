@@ -7,12 +7,11 @@ use Rattle.std.proofs.lemmas.Bool.{eqb-false}
 use Rattle.document.specs.Classes.{comma}
 use Rattle.document.specs.Rows.{Part, parts_from, parts, part_of, fields, field}
 use Rattle.basics.specs.Tests.{decided}
-use Rattle.basics.specs.Lists.{zero_at}
 use Rattle.fields.specs.declared.Fields.{Fields}
 use Rattle.basics.specs.Left.{drop_here, drop-end}
-use Rattle.fields.specs.Split.{up_to_comma, most_fields, added, collected, no_fields, Split}
-use Rattle.fields.specs.Places.{ToldAt, no_part, field_part}
-use Rattle.fields.specs.PlacesLaws.{told_at}
+use Rattle.fields.specs.Split.{up_to_comma, most_fields, as_told, added, collected, no_fields, Split}
+use Rattle.fields.specs.Places.{ToldAt, place_at, no_part, field_part}
+use Rattle.fields.specs.PlacesLaws.{told_at, empty_at}
 
 -- The bytes before the first comma: at a comma, at another byte, at the end.
 pub comma_here : (s : List ℕ) (i : ℕ) → i < length s → get_or s i 0 ≡ comma → up_to_comma (drop i s) ≡ 0
@@ -116,15 +115,14 @@ walk_tail : (row : List ℕ) (start left : ℕ) → get_or (parts_from start sta
     ≡ get_or (parts_after start (drop start row)) left no_part
 walk_tail row start left = rw (field_there row start)
 
-pub walk_on : (row : List ℕ) (number start end left end' : ℕ) → Walk row number start end left → 0 < left → end < length row
-    → end' ≡ end + 1 + up_to_comma (drop (end + 1) row) → Walk row number (end + 1) end' (left - 1)
-walk_on row number start end left end' w p h e =
-    let k : left ≡ suc (left - 1) = omega arith in
+pub walk_on : (row : List ℕ) (number start end left end' next : ℕ) → Walk row number start end left → left ≡ suc next → end < length row
+    → end' ≡ end + 1 + up_to_comma (drop (end + 1) row) → Walk row number (end + 1) end' next
+walk_on row number start end left end' next w k h e =
     record {
       place = omega arith;
       ends = e;
-      rest = sym (ap (λ l. get_or l (left - 1) no_part) (fields-after row start end w.ends w.place h))
-          ∙ sym (walk_tail row start (left - 1)) ∙ ap (λ n. get_or (parts_from start start (drop start row)) n no_part) (sym k) ∙ w.rest;
+      rest = sym (ap (λ l. get_or l next no_part) (fields-after row start end w.ends w.place h))
+          ∙ sym (walk_tail row start next) ∙ ap (λ n. get_or (parts_from start start (drop start row)) n no_part) (sym k) ∙ w.rest;
     }
 
 -- a field holds the bytes of its part
@@ -172,31 +170,27 @@ pub record Collects (row : List ℕ) (start end : ℕ) (f : Fields) : Type 0 whe
   pub place : start ≤ length row
   pub ends : end ≡ start + up_to_comma (drop start row)
   pub rest : collected f (parts_after start (drop start row)) ≡ collected no_fields (parts row)
-  pub inside : (k : ℕ) → get_or f.starts k 0 + get_or f.sizes k 0 ≤ length row
-  pub places : length f.starts ≡ most_fields
-  pub spans : length f.sizes ≡ most_fields
+  pub inside : (k : ℕ) → (place_at f.places k).start + (place_at f.places k).size ≤ length row
+  pub places : length f.places ≡ most_fields
 
 -- one field more, inside the row, keeps all fields inside it
-added_inside : (n : ℕ) (f : Fields) (p : Part) → p.start + p.size ≤ n → length f.starts ≡ most_fields → length f.sizes ≡ most_fields
-    → ((k : ℕ) → get_or f.starts k 0 + get_or f.sizes k 0 ≤ n) → (k : ℕ) → get_or (added f p).starts k 0 + get_or (added f p).sizes k 0 ≤ n
+added_inside : (n : ℕ) (f : Fields) (p : Part) → p.start + p.size ≤ n → length f.places ≡ most_fields
+    → ((k : ℕ) → (place_at f.places k).start + (place_at f.places k).size ≤ n)
+    → (k : ℕ) → (place_at (added f p).places k).start + (place_at (added f p).places k).size ≤ n
 unfolding added
-added_inside n f p h a b i k = elim (decided (leb most_fields f.count)) [
+added_inside n f p h a i k = elim (decided (leb most_fields f.count)) [
   | inl e ↦ rw e (i k)
   | inr e ↦ rw e (go (leb-false most_fields f.count e) (decided (eqb k f.count)))
 ]
   where
     go : f.count < most_fields → (eqb k f.count ≡ true) ⊎ (eqb k f.count ≡ false)
-        → get_or (set f.starts f.count p.start) k 0 + get_or (set f.sizes f.count p.size) k 0 ≤ n
-    go l (inl q) = rw (eqb-true k f.count q, get_or-set_same f.starts f.count p.start 0 (omega arith), get_or-set_same f.sizes f.count p.size 0 (omega arith)) h
-    go l (inr q) = rw (get_or-set_other f.starts f.count k p.start 0 (eqb-false k f.count q), get_or-set_other f.sizes f.count k p.size 0 (eqb-false k f.count q)) (i k)
+        → (place_at (set f.places f.count (as_told p)) k).start + (place_at (set f.places f.count (as_told p)) k).size ≤ n
+    go l (inl q) = rw (eqb-true k f.count q, get_or-set_same f.places f.count (as_told p) (record { start = 0; size = 0 }) (omega arith)) h
+    go l (inr q) = rw (get_or-set_other f.places f.count k (as_told p) (record { start = 0; size = 0 }) (eqb-false k f.count q)) (i k)
 
-added_places : (f : Fields) (p : Part) → length (added f p).starts ≡ length f.starts
+added_places : (f : Fields) (p : Part) → length (added f p).places ≡ length f.places
 unfolding added
-added_places f p = elim (decided (leb most_fields f.count)) [ inl e ↦ rw e | inr e ↦ rw e (length-set f.starts f.count p.start) ]
-
-added_spans : (f : Fields) (p : Part) → length (added f p).sizes ≡ length f.sizes
-unfolding added
-added_spans f p = elim (decided (leb most_fields f.count)) [ inl e ↦ rw e | inr e ↦ rw e (length-set f.sizes f.count p.size) ]
+added_places f p = elim (decided (leb most_fields f.count)) [ inl e ↦ rw e | inr e ↦ rw e (length-set f.places f.count (as_told p)) ]
 
 pub collects_first : (row : List ℕ) (end : ℕ) (f : Fields) → end ≡ 0 + up_to_comma (drop 0 row)
     → f ≡ added no_fields (record { start = 0; size = end - 0 }) → Collects row 0 end f
@@ -209,9 +203,8 @@ collects_first row end f e q =
       place = omega arith;
       ends = e;
       rest = sym (rw (field_there row 0, k) refl);
-      inside = added_inside (length row) no_fields p (omega arith) refl refl (λ j. let z = zero_at most_fields j in omega arith);
+      inside = added_inside (length row) no_fields p (omega arith) refl (λ j. rw (empty_at most_fields j) (omega arith));
       places = added_places no_fields p;
-      spans = added_spans no_fields p;
     })
 
 pub collects_next : (row : List ℕ) (start end end' : ℕ) (f g : Fields) → Collects row start end f → end < length row
@@ -226,9 +219,8 @@ collects_next row start end end' f g c h e q =
       place = omega arith;
       ends = e;
       rest = rw k (rw (fields-after row start end c.ends c.place h, field_there row (end + 1)) at c.rest);
-      inside = added_inside (length row) f p (omega arith) c.places c.spans c.inside;
+      inside = added_inside (length row) f p (omega arith) c.places c.inside;
       places = added_places f p ∙ c.places;
-      spans = added_spans f p ∙ c.spans;
     })
 
 pub collects_all : (row : List ℕ) (start end : ℕ) (f : Fields) → Collects row start end f → length row ≤ end → Split row f

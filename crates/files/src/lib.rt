@@ -14,12 +14,24 @@ use std::io::{ErrorKind, Read};
 use std::rt::Files;
 use std::{fs, io};
 
-// How far a slice is filled, from its start; whether no more will come; and the error, where that is because a read failed.
+// Why no more was read.
+#[derive(Clone, Copy)]
+pub enum Stop {
+    // The slice is full.
+    Full,
+
+    // The file has ended.
+    Ended,
+
+    // A read has failed.
+    Failed(io::Error),
+}
+
+// How far a slice is filled, from its start, and why no further.
 #[derive(Clone, Copy)]
 pub struct Filled {
     pub held: usize,
-    pub ended: bool,
-    pub failed: Option<io::Error>,
+    pub stop: Stop,
 }
 
 // A line on standard error: what could not be read or written, and why. Where that cannot be said, it is not.
@@ -41,43 +53,29 @@ pub fn open<R: Files + Eprint>(rt: &R, path: &str) -> Option<R::File> {
     }
 }
 
-// One read, to the place after the bytes that are held: how many bytes it brought, none at the file's end.
-fn read_on<R: Read>(file: &mut R, into: &mut [u8], held: usize) -> io::Result<usize>
-    requires { held ≤ length into.old }
-    ensures { IfOk result (λ count. held + count ≤ length into.old) }
-{
-    file.read(&mut into[held..])
-}
-
 // Reads on after the bytes that are held, until the slice is full, the file ends or a read fails.
 pub fn fill<R: Read>(file: &mut R, into: &mut [u8], front: usize) -> Filled
     requires { front ≤ length into.old }
     ensures { IsPrefixLen result.held into.new }
 {
     let mut held = front;
+    // Stays: each read brings as many bytes as it likes, so no range says the places.
     while held < into.len() {
-        match read_on(file, into, held) {
-            Ok(0) => {
-                return Filled {
-                    held,
-                    ended: true,
-                    failed: None,
-                };
-            }
+        match file.read(&mut into[held..]) {
+            Ok(0) => return Filled {
+                held,
+                stop: Stop::Ended,
+            },
             Ok(count) => held += count,
-            Err(error) => {
-                return Filled {
-                    held,
-                    ended: true,
-                    failed: Some(error),
-                };
-            }
+            Err(error) => return Filled {
+                held,
+                stop: Stop::Failed(error),
+            },
         }
     }
     Filled {
         held,
-        ended: false,
-        failed: None,
+        stop: Stop::Full,
     }
 }
 
@@ -90,11 +88,11 @@ pub fn read_whole<R: Files + Eprint>(rt: &R, path: &str, into: &mut [u8]) -> usi
         return 0;
     };
     let filled = fill(&mut file, into, 0);
-    match filled.failed {
-        Some(error) => {
+    match filled.stop {
+        Stop::Failed(error) => {
             say(rt, path, error);
             0
         }
-        None => filled.held,
+        Stop::Full | Stop::Ended => filled.held,
     }
 }

@@ -4,16 +4,18 @@
 
 #![tactic(auto)]
 
-ghost use Rattle.std.specs.Prelude.{◌*◌, ◌<◌, ◌≡◌, drop};
-ghost use Rattle.document.specs.Limits.{width, kept_stride, most_states};
+ghost use Rattle.std.specs.Prelude.{◌*◌, ◌≡◌, drop};
+ghost use Rattle.document.specs.Limits.{width, kept_stride};
 ghost use Rattle.document.specs.Tables.{seen_rows, report_room};
 ghost use Rattle.slices.specs.TablesLaws.{kept_at};
 ghost use Rattle.tables.specs.Tables.{kept_from};
 ghost use Rattle.moves.specs.Ready.{Ready, RowReady, Steady};
-ghost use Rattle.foreseen.specs.Foreseen.{weight_of, moved_weight, tally_of, room_refusal, foreseen_of};
+ghost use Rattle.foreseen.specs.Foreseen.{weight_of, tally_of, room_refusal, comes_to, foreseen_of};
 
-use limits::{Combination, KEPT_STRIDE, Transitions, WIDTH};
-use moves::Known;
+use limits::{Combination, KEPT_STRIDE, REPORT_STRIDE, WIDTH};
+use moves::{Event, Known};
+use ordered::Seen;
+use refusals::Refusal;
 
 // What a kept row adds to the kept rows after an event, and to its reports.
 #[derive(Clone, Copy)]
@@ -30,149 +32,124 @@ pub struct Rooms {
     pub reports: usize,
 }
 
-// What an event comes to: the refusal for want of room, or 0; the rows of both tables after it; its reports; and whether its
-// binding is neither empty nor seen.
+// What an event comes to: the rows of both tables after it; its reports; and whether its binding is neither empty nor seen.
 #[derive(Clone, Copy)]
 pub struct Foreseen {
-    pub refusal: u8,
     pub seen: usize,
     pub kept: usize,
     pub reported: usize,
     pub fresh: bool,
 }
 
-// What a row that moves to a state adds.
-fn moved_weight(to: u32, hopeful: u64, asked: u64) -> Weight
-    requires { to < most_states }
-    ensures { result ≡ moved_weight hopeful asked to }
-{
-    Weight {
-        kept: moves::one(moves::is_among(hopeful, to)),
-        reported: moves::one(moves::is_among(asked, to)),
-    }
-}
-
 // What kept row i adds.
-fn weigh(
-    next: &Transitions,
-    known: Known,
-    seen: &[u32],
-    n: usize,
-    kept: &[u32],
-    i: usize,
-    e: usize,
-    b: Combination,
-    fresh: bool,
-) -> Weight
-    requires { RowReady next.now known.states e n i b seen.now kept.now fresh }
-    ensures { result ≡ weight_of next.now known.hopeful known.asked e b (seen_rows n seen.now) (kept_at width kept.now (i * kept_stride)) }
+fn weigh(known: &Known, seen: Seen, kept: &[u32], i: usize, event: &Event) -> Weight
+    requires { RowReady known.now.next known.now.states event.now.number seen.count i event.now.binding seen.numbers.now kept.now event.now.fresh }
+    ensures { result ≡ weight_of known.now.next known.now.hopeful known.now.asked event.now.number event.now.binding (seen_rows seen.entry.count seen.entry.numbers.now) (kept_at width kept.now (i * kept_stride)) }
 {
     let at = i * KEPT_STRIDE;
     let k = bound::row_at(kept, at);
-    if combos::includes(k, b) {
-        let to = moves::next_state(next, kept[at + WIDTH], e);
-        return moved_weight(to, known.hopeful, known.asked);
-    }
-    if !moves::creates(fresh, b, k, seen, n) {
+    let stays = !combos::includes(k, event.binding);
+    if stays && !event.creates(k, seen) {
         return Weight {
             kept: 1,
             reported: 0,
         };
     }
-    let to = moves::next_state(next, kept[at + WIDTH], e);
-    let w = moved_weight(to, known.hopeful, known.asked);
+    let to = known.next_state(kept[at + WIDTH], event.number);
     Weight {
-        kept: w.kept + 1,
-        reported: w.reported,
+        kept: usize::from(known.is_hopeful(to)) + usize::from(stays),
+        reported: usize::from(known.is_asked(to)),
     }
 }
 
 // The kept rows after the event, and its reports, counted.
-fn tally(
-    next: &Transitions,
-    known: Known,
-    seen: &[u32],
-    n: usize,
-    kept: &[u32],
-    m: usize,
-    e: usize,
-    b: Combination,
-    fresh: bool,
-) -> Weight
-    requires { Ready next.now known.states e n m b seen.now kept.now fresh }
-    ensures { result ≡ tally_of next.now known.hopeful known.asked e b (seen_rows n seen.now) (kept_from m kept.now 0) }
+fn tally(known: &Known, seen: Seen, kept: &[u32], m: usize, event: &Event) -> Weight
+    requires { Ready known.now.next known.now.states event.now.number seen.count m event.now.binding seen.numbers.now kept.now event.now.fresh }
+    ensures { result ≡ tally_of known.now.next known.now.hopeful known.now.asked event.now.number event.now.binding (seen_rows seen.entry.count seen.entry.numbers.now) (kept_from m kept.now 0) }
 {
-    let mut keeps: usize = 0;
-    let mut reported: usize = 0;
-    let mut i: usize = 0;
-    while i < m {
-        let w = weigh(next, known, seen, n, kept, i, e, b, fresh);
-        keeps += w.kept;
-        reported += w.reported;
-        i += 1;
+    let mut total = Weight {
+        kept: 0,
+        reported: 0,
+    };
+    for i in 0..m {
+        let w = weigh(known, seen, kept, i, event);
+        total.kept += w.kept;
+        total.reported += w.reported;
     }
-    Weight {
-        kept: keeps,
-        reported,
-    }
+    total
 }
 
 // How many reports there is room for from a report number on.
 pub fn report_room(reports: &[u32], from: usize) -> usize
     ensures { result ≡ report_room (drop from reports.now) }
 {
-    if reports.len() <= from {
-        return 0;
-    }
-    (reports.len() - from) / KEPT_STRIDE
+    reports.len().saturating_sub(from) / REPORT_STRIDE
 }
 
-// The refusal for want of room, or 0.
-fn room_refusal(rooms: Rooms, seen: usize, kept: usize, reports: usize) -> u8
-    ensures { result ≡ room_refusal seen rooms.seen kept rooms.kept reports rooms.reports }
+impl Rooms {
+    // Whether they hold what an event comes to, in the order of the refusals.
+    fn hold(self, o: Foreseen) -> Result<(), Refusal>
+        ensures { result ≡ room_refusal o.seen self.seen o.kept self.kept o.reported self.reports }
+    {
+        if self.seen < o.seen {
+            Err(Refusal::NoRoomForSeen)
+        } else if self.kept < o.kept {
+            Err(Refusal::NoRoomForKept)
+        } else if self.reports < o.reported {
+            Err(Refusal::NoRoomForReports)
+        } else {
+            Ok(())
+        }
+    }
+}
+
+// What an event with this binding comes to in a session that is sound, whatever room there is.
+pub fn come_to(
+    known: &Known,
+    seen: Seen,
+    kept: &[u32],
+    m: usize,
+    e: usize,
+    b: Combination,
+) -> Foreseen
+    requires { Steady known.now.next known.now.states e seen.count m seen.numbers.now kept.now }
+    ensures { result ≡ comes_to known.now.next known.now.hopeful known.now.asked seen.entry.count m seen.entry.numbers.now kept.now e b }
 {
-    if rooms.seen < seen {
-        return refusals::NO_ROOM_FOR_SEEN;
+    let fresh = moves::is_new(b, seen);
+    let event = Event {
+        number: e,
+        binding: b,
+        fresh,
+    };
+    let w = tally(known, seen, kept, m, &event);
+    Foreseen {
+        seen: seen.count + usize::from(fresh),
+        kept: w.kept,
+        reported: w.reported,
+        fresh,
     }
-    if rooms.kept < kept {
-        return refusals::NO_ROOM_FOR_KEPT;
-    }
-    if rooms.reports < reports {
-        return refusals::NO_ROOM_FOR_REPORTS;
-    }
-    refusals::TAKEN
 }
 
-// What an event with this binding comes to in a session that is sound. Nothing is written.
+// The same, or the refusal for want of room. Nothing is written.
 pub fn foresee(
-    next: &Transitions,
-    known: Known,
-    seen: &[u32],
-    n: usize,
+    known: &Known,
+    seen: Seen,
     kept: &[u32],
     m: usize,
     reports: &[u32],
     from: usize,
     e: usize,
     b: Combination,
-) -> Foreseen
-    requires { Steady next.now known.states e n m seen.now kept.now }
-    ensures { result ≡ foreseen_of next.now known.hopeful known.asked from n m seen.now kept.now reports.now e b }
+) -> Result<Foreseen, Refusal>
+    requires { Steady known.now.next known.now.states e seen.count m seen.numbers.now kept.now }
+    ensures { result ≡ foreseen_of known.now.next known.now.hopeful known.now.asked from seen.entry.count m seen.entry.numbers.now kept.now reports.now e b }
 {
-    let fresh = moves::is_new(b, seen, n);
-    let w = tally(next, known, seen, n, kept, m, e, b, fresh);
-    let after = n + moves::one(fresh);
+    let o = come_to(known, seen, kept, m, e, b);
     let rooms = Rooms {
-        seen: rooms::seen_room(seen),
+        seen: rooms::seen_room(seen.numbers),
         kept: rooms::kept_room(kept),
         reports: report_room(reports, from),
     };
-    let refusal = room_refusal(rooms, after, w.kept, w.reported);
-    Foreseen {
-        refusal,
-        seen: after,
-        kept: w.kept,
-        reported: w.reported,
-        fresh,
-    }
+    rooms.hold(o)?;
+    Ok(o)
 }

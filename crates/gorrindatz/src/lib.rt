@@ -79,7 +79,7 @@ const LINE: [u8; 72] = [0; MOST_LINE];
 pub fn gorrindatz_class_of(byte: u8) -> u8
     ensures { result ≡ class_of byte }
 {
-    classes::class_of(byte)
+    classes::class_of(byte).number()
 }
 
 pub fn gorrindatz_declarations(text: &[u8]) -> Declared
@@ -152,8 +152,7 @@ pub fn gorrindatz_event(
 ) -> Answered
     ensures { Leaves (event (meaning p) (session_of n m seen.old kept.old) reports.old e values.now) (session_of n m seen.old kept.old) reports.old result seen.new kept.new reports.new }
 {
-    let v = *values;
-    session::event(p, seen, n, kept, m, reports, e, v)
+    session::event(p, seen, n, kept, m, reports, e, *values)
 }
 
 pub fn gorrindatz_lookup(
@@ -166,36 +165,35 @@ pub fn gorrindatz_lookup(
 ) -> Looked
     ensures { result ≡ looked_up (lookup (meaning p) (session_of n m seen.now kept.now) combination.now) }
 {
-    let c = *combination;
-    finding::lookup(p, seen, n, kept, m, c)
+    finding::lookup(p, seen, n, kept, m, *combination)
 }
 
 // Logs ------------------------------------------------------------------------------------------------------------------
 
-pub fn gorrindatz_row<'a, 'b>(
-    declarations: &'a [u8],
+pub fn gorrindatz_row(
+    declarations: &[u8],
     p: Property,
     seen: &mut [u32],
     n: usize,
     kept: &mut [u32],
     m: usize,
     reports: &mut [u32],
-    bytes: &'b [u8],
+    bytes: &[u8],
 ) -> Answered
     ensures { Leaves (row declarations.now (meaning p) (session_of n m seen.old kept.old) reports.old bytes.now) (session_of n m seen.old kept.old) reports.old result seen.new kept.new reports.new }
 {
     logs::row(declarations, p, seen, n, kept, m, reports, bytes)
 }
 
-pub fn gorrindatz_run<'a, 'b>(
-    declarations: &'a [u8],
+pub fn gorrindatz_run(
+    declarations: &[u8],
     p: Property,
     seen: &mut [u32],
     n: usize,
     kept: &mut [u32],
     m: usize,
     reports: &mut [u32],
-    log: &'b [u8],
+    log: &[u8],
     at: usize,
     budget: usize,
 ) -> Ran
@@ -204,15 +202,15 @@ pub fn gorrindatz_run<'a, 'b>(
     logs::run(declarations, p, seen, n, kept, m, reports, log, at, budget)
 }
 
-pub fn gorrindatz_print<'a, 'b>(
-    declarations: &'a [u8],
+pub fn gorrindatz_print(
+    declarations: &[u8],
     p: Property,
     seen: &mut [u32],
     n: usize,
     kept: &mut [u32],
     m: usize,
     reports: &mut [u32],
-    log: &'b [u8],
+    log: &[u8],
     at: usize,
     number: usize,
     text: &mut [u8],

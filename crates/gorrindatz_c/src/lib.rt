@@ -146,15 +146,15 @@ pub extern "C" fn gorrindatz_lookup(
 // Logs ------------------------------------------------------------------------------------------------------------------
 
 #[unsafe(no_mangle)]
-pub extern "C" fn gorrindatz_row<'a, 'b>(
-    declarations: &'a [u8],
+pub extern "C" fn gorrindatz_row(
+    declarations: &[u8],
     p: Property,
     seen: &mut [u32],
     n: usize,
     kept: &mut [u32],
     m: usize,
     reports: &mut [u32],
-    bytes: &'b [u8],
+    bytes: &[u8],
 ) -> Answered
     ensures { Leaves (row declarations.now (meaning p) (session_of n m seen.old kept.old) reports.old bytes.now) (session_of n m seen.old kept.old) reports.old result seen.new kept.new reports.new }
 {
@@ -162,15 +162,15 @@ pub extern "C" fn gorrindatz_row<'a, 'b>(
 }
 
 #[unsafe(no_mangle)]
-pub extern "C" fn gorrindatz_run<'a, 'b>(
-    declarations: &'a [u8],
+pub extern "C" fn gorrindatz_run(
+    declarations: &[u8],
     p: Property,
     seen: &mut [u32],
     n: usize,
     kept: &mut [u32],
     m: usize,
     reports: &mut [u32],
-    log: &'b [u8],
+    log: &[u8],
     at: usize,
     budget: usize,
 ) -> Ran
@@ -180,15 +180,15 @@ pub extern "C" fn gorrindatz_run<'a, 'b>(
 }
 
 #[unsafe(no_mangle)]
-pub extern "C" fn gorrindatz_print<'a, 'b>(
-    declarations: &'a [u8],
+pub extern "C" fn gorrindatz_print(
+    declarations: &[u8],
     p: Property,
     seen: &mut [u32],
     n: usize,
     kept: &mut [u32],
     m: usize,
     reports: &mut [u32],
-    log: &'b [u8],
+    log: &[u8],
     at: usize,
     number: usize,
     text: &mut [u8],

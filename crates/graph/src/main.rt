@@ -3,7 +3,7 @@
 
 #![tactic(auto)]
 
-use draw::{print_graph, print_refusal};
+use draw::{Graph, print_refusal};
 use std::io;
 
 mod draw;
@@ -17,8 +17,7 @@ fn print_answer(rt: &impl Print, declarations: &[u8], pattern: &[u8]) -> io::Res
     if t.refusal != refusals::TAKEN {
         return print_refusal(rt, t.refusal, t.at);
     }
-    let p = t.property;
-    print_graph(rt, declarations, pattern, p)
+    Graph::new(declarations, pattern, t.property).print(rt)
 }
 
 fn main(rt: HostRuntime) -> io::Result<()> {

@@ -20,7 +20,8 @@ use Rattle.basics.specs.Tests.{decided}
 use Rattle.basics.specs.Lists.{tabulate_at, tabulate-past, tabulate_same, tabulate-next, zero_at}
 use Rattle.sets.specs.ShapesLaws.{tabulate-is}
 use Rattle.nexts.specs.Nexts.{nexts_of, move_of, moves_of}
-use Rattle.growing.specs.Growing.{met_all, Row, Reads, Grows, transitions}
+use Rattle.growing.specs.declared.Grown.{Grown}
+use Rattle.growing.specs.Growing.{met_all, Row, Reads, AllStates, TooMany, transitions}
 use Rattle.growing.specs.RowLaws.{find_longer}
 
 -- The definition's moves ------------------------------------------------------------------------------------------------
@@ -152,36 +153,32 @@ module _ (after named : List ℕ) (base m : ℕ) (sets next : List ℕ) (n i : �
       rw (q, get_or-take n sets i 0 h) (found-is p anew after named base (get_or sets i 0) 0 m (take n sets) r (omega arith))
 
   -- more than 64 states
-  pub growing_over : (to sets' next' : List ℕ) (n' : ℕ) → i < n → to ≡ moves_of after named base (get_or sets i 0)
-      → Row to m i n sets sets' next next' n' → most_states < n' → Grows after named base m (record { count = n'; sets = sets'; next = next' })
-  growing_over to sets' next' n' h q row b = record {
-    long = row.long_sets;
-    over = λ x p anew r.
-        let e = met_is h p anew r (get_or sets i 0) refl in
-        let d = rw (q, e) at (row.over b) in
+  pub growing_over : (to : List ℕ) → i < n → to ≡ moves_of after named base (get_or sets i 0)
+      → most_states < length (met_all to 0 m (take n sets)) → TooMany after named base m
+  growing_over to h q b = record {
+    over = λ p anew r.
+        let d = rw (q, met_is h p anew r (get_or sets i 0) refl) at b in
         let a = go_longer anew p m (i + 1) (suc most_states - (i + 1)) (turned anew p m i (record { sets = take n sets; table = rows_of i m next })) in
         let c = rw (on h p anew r) at a in
         omega arith;
-    sets = λ x. absurd (omega arith);
-    next = λ x. absurd (omega arith);
   }
 
   -- the rows with the one just gone through
-  rows_more : (to sets' next' : List ℕ) (n' : ℕ) → i < n → to ≡ moves_of after named base (get_or sets i 0)
-      → Row to m i n sets sets' next next' n' → n' ≤ most_states → (p : Pattern) (anew : Bool) → Reads p anew after named base
-      → rows_of (i + 1) m next'
+  rows_more : (to : List ℕ) (g' : Grown) → i < n → to ≡ moves_of after named base (get_or sets i 0)
+      → Row to m i (record { count = n; sets = sets; next = next }) g' → (p : Pattern) (anew : Bool) → Reads p anew after named base
+      → rows_of (i + 1) m g'.next
       ≡ rows_of i m next ++ (row_of anew p (get_or (take n sets) i 0) 0 m (find_all anew p (get_or (take n sets) i 0) 0 m (take n sets)) ∷ [])
   unfolding rows_of
-  rows_more to sets' next' n' h q row b p anew r =
+  rows_more to g' h q row p anew r =
       let ev = g.events in
       let s = get_or (take n sets) i 0 in
       let found = find_all anew p s 0 m (take n sets) in
-      let old : tabulate i (λ k. tabulate m (λ e. get_or next' (k * most_events + e) 0)) ≡ tabulate i (λ k. tabulate m (λ e. get_or next (k * most_events + e) 0)) =
+      let old : tabulate i (λ k. tabulate m (λ e. get_or g'.next (k * most_events + e) 0)) ≡ tabulate i (λ k. tabulate m (λ e. get_or next (k * most_events + e) 0)) =
       tabulate_same i _ _ (λ k l. tabulate_same m _ _ (λ e d. row.other (k * most_events + e) (λ a x (y : k * most_events + e ≡ i * most_events + a). omega arith))) in
-      let new : row_of anew p s 0 m found ≡ tabulate m (λ e. get_or next' (i * most_events + e) 0) =
-      tabulate-is m (λ e. get_or next' (i * most_events + e) 0) (row_of anew p s 0 m found) (row_long p anew s 0 m found) (λ k d.
-      row_at p anew s 0 m k found d ∙ sym (row.entry b k d ∙ ap₂ state_of (there k d) (rw q (met_is h p anew r (get_or sets i 0) refl)))) in
-      tabulate-next i (λ k. tabulate m (λ e. get_or next' (k * most_events + e) 0)) ∙ ap₂ (λ (x : List (List ℕ)) (y : List ℕ). x ++ (y ∷ [])) old (sym new)
+      let new : row_of anew p s 0 m found ≡ tabulate m (λ e. get_or g'.next (i * most_events + e) 0) =
+      tabulate-is m (λ e. get_or g'.next (i * most_events + e) 0) (row_of anew p s 0 m found) (row_long p anew s 0 m found) (λ k d.
+      row_at p anew s 0 m k found d ∙ sym (row.entry k d ∙ ap₂ state_of (there k d) (rw q (met_is h p anew r (get_or sets i 0) refl)))) in
+      tabulate-next i (λ k. tabulate m (λ e. get_or g'.next (k * most_events + e) 0)) ∙ ap₂ (λ (x : List (List ℕ)) (y : List ℕ). x ++ (y ∷ [])) old (sym new)
     where
       there : (k : ℕ) → k < m → get_or to k 0 ≡ move anew p (get_or (take n sets) i 0) (0 + k)
       there k d =
@@ -189,20 +186,20 @@ module _ (after named : List ℕ) (base m : ℕ) (sets next : List ℕ) (n i : �
           let z : 0 + k ≡ k = omega arith in
           rw (q, z, get_or-take n sets i 0 h) (move-is p anew after named base (get_or sets i 0) k r (omega arith))
 
-  pub growing_turn : (to sets' next' : List ℕ) (n' : ℕ) → i < n → to ≡ moves_of after named base (get_or sets i 0)
-      → Row to m i n sets sets' next next' n' → n' ≤ most_states → Growing after named base m sets' next' n' (i + 1)
-  growing_turn to sets' next' n' h q row b =
+  pub growing_turn : (to : List ℕ) (g' : Grown) → i < n → to ≡ moves_of after named base (get_or sets i 0)
+      → Row to m i (record { count = n; sets = sets; next = next }) g' → Growing after named base m g'.sets g'.next g'.count (i + 1)
+  growing_turn to g' h q row =
       let ev = g.events in
       let few = g.few in
       record {
         events = ev;
-        few = b;
+        few = row.few;
         inside = omega arith;
         long_sets = row.long_sets;
         long_next = row.long_next;
         left = λ p anew r.
-            let f : take n' sets' ≡ find_all anew p (get_or (take n sets) i 0) 0 m (take n sets) = rw (q, met_is h p anew r (get_or sets i 0) refl) at (row.found b) in
-            rw (f, rows_more to sets' next' n' h q row b p anew r) (on h p anew r);
+            let f : take g'.count g'.sets ≡ find_all anew p (get_or (take n sets) i 0) 0 m (take n sets) = rw (q, met_is h p anew r (get_or sets i 0) refl) at row.found in
+            rw (f, rows_more to g' h q row p anew r) (on h p anew r);
         blank = λ k e l d. row.other (k * most_events + e) (λ a x y. apart k e a l x y d) ∙ g.blank k e l (before k e d);
       }
     where
@@ -233,12 +230,12 @@ module _ (after named : List ℕ) (base m : ℕ) (sets next : List ℕ) (n i : �
     | inr l ↦ rw (tabulate-past i (λ k. tabulate m (λ e. get_or next (k * most_events + e) 0)) k [] (ltb-false k i l)) (g.blank k e h (inl (ltb-false k i l)))
   ]
 
-  pub growing_end : n ≤ i → Grows after named base m (record { count = n; sets = sets; next = next })
+  pub growing_end : n ≤ i → AllStates after named base m (record { count = n; sets = sets; next = next })
   growing_end h = record {
+    few = g.few;
     long = g.long_sets;
-    over = λ x. absurd (let f = g.few in omega arith);
-    sets = λ x p anew r. ap (λ (f : Found). f.sets) (stops h p anew r);
-    next = λ x p anew r. whole ∙ ap transitions (stops h p anew r);
+    sets = λ p anew r. ap (λ (f : Found). f.sets) (stops h p anew r);
+    next = λ p anew r. whole ∙ ap transitions (stops h p anew r);
   }
     where
       whole : next ≡ transitions (record { sets = take n sets; table = rows_of i m next })

@@ -1,4 +1,3 @@
 pub mod Growing
-pub mod PlaceLaws
 pub mod RowLaws
 pub mod GrowLaws

@@ -1,14 +1,18 @@
 -- Laws of a row: the number of a set stays as sets join those found, and one event more.
 -- Assumes nothing.
-use Rattle.std.specs.Prelude.{ℕ, zero, suc, ◌+◌, ◌-◌, ◌*◌, ◌≤◌, ◌<◌, ◌≡◌, refl, Bool, true, false, cond, List, [], ◌∷◌, ◌++◌, length, get_or, take, set, eqb, ltb}
-use Rattle.std.proofs.Common.{arith, sym, ap, ◌∙◌, inl, inr, length-set, length-append, get_or-take, get_or-set_same, get_or-set_other, length-take-le, take-suc-set, eq-eqb, lt-ltb, le-ltb, ltb-true, ltb-false}
+use Rattle.std.specs.Prelude.{ℕ, zero, suc, ◌+◌, ◌-◌, ◌*◌, ◌≤◌, ◌<◌, ◌≡◌, refl, Bool, true, false, cond, List, [], ◌∷◌, ◌++◌, length, get_or, take, set, eqb, ltb, None, Some, position}
+use Rattle.std.proofs.Common.{arith, sym, ap, ◌∙◌, inl, inr, length-set, length-append, get_or-set_same, get_or-set_other, length-take-le, get_or-take, take-suc-set, eq-eqb, ne_eqb, eqb-true, add-one, lt-ltb, le-ltb, ltb-true, ltb-false}
 use Rattle.std.proofs.Math.Decide.{ℕ_discrete}
-use Rattle.std.proofs.lemmas.List.{set-get_or}
+use Rattle.std.proofs.lemmas.Option.{none-some, cond_some}
+use Rattle.std.proofs.lemmas.Bool.{eqb-false}
+use Rattle.std.proofs.lemmas.List.Recursion.{is_position_or_len}
+use Rattle.std.specs.List.{position_or_len}
 use Rattle.document.specs.Limits.{most_events, most_states}
 use Rattle.document.specs.States.{state_of, find}
 use Rattle.basics.specs.Tests.{decided}
-use Rattle.words.specs.Places.{state_le, state_at}
-use Rattle.growing.specs.Growing.{met_all, Row}
+use Rattle.words.specs.Places.{state_le}
+use Rattle.growing.specs.declared.Grown.{Grown}
+use Rattle.growing.specs.Growing.{met_all, Joins, Numbers, Row}
 
 -- The number of a set ---------------------------------------------------------------------------------------------------
 
@@ -90,51 +94,80 @@ met_longer to e (suc n) l =
     let b = met_longer to (suc e) n (find (get_or to e 0) l) in
     rw (met_next to e n l) (omega arith)
 
+-- A number given -----------------------------------------------------------------------------------------------------------
+
+-- what `position` finds is the definition's number
+state_position : (s : ℕ) (l : List ℕ) → state_of s l ≡ position_or_len (λ (x : ℕ). eqb x s) l
+unfolding state_of
+state_position s l = is_position_or_len (state_of s) (λ (x : ℕ). eqb x s) refl (λ x xs. go x xs (eqb s x) refl) l
+  where
+    go : (x : ℕ) (xs : List ℕ) (t : Bool) → eqb s x ≡ t → state_of s (x ∷ xs) ≡ cond (eqb x s) 0 (1 + state_of s xs)
+    go x xs true e = rw (state_same s x xs e, eq-eqb x s (sym (eqb-true s x e)))
+    go x xs false e =
+        let z : suc (state_of s xs) ≡ 1 + state_of s xs = omega arith in
+        rw (state_other s x xs e, ne_eqb x s (λ (q : x ≡ s). eqb-false s x e (sym q))) z
+
+module _ (s : ℕ) (g : Grown) (few : g.count ≤ most_states) (l : length g.sets ≡ most_states) where
+  long : length (take g.count g.sets) ≡ g.count
+  long = length-take-le g.count g.sets (omega arith)
+
+  -- it stands among those found
+  pub number_old : (k : ℕ) → Some k ≡ position (λ (x : ℕ). eqb x s) (take g.count g.sets) → Joins s g g k
+  number_old k q =
+      let e = cond_some _ _ _ (sym q) in
+      let w = long in
+      let n : k ≡ state_of s (take g.count g.sets) = sym (e.1) ∙ sym (state_position s (take g.count g.sets)) in
+      let b = ltb-true _ _ e.0 in
+      record {
+        few = few;
+        long = l;
+        below = omega arith;
+        number = n;
+        found = sym (find-old s (take g.count g.sets) (omega arith));
+        same = refl;
+      }
+
+  number_none : None ≡ position (λ (x : ℕ). eqb x s) (take g.count g.sets) → state_of s (take g.count g.sets) ≡ g.count
+  number_none q = elim (decided (ltb (state_of s (take g.count g.sets)) (length (take g.count g.sets)))) [
+    | inl e ↦ absurd (none-some _ (rw (sym (state_position s (take g.count g.sets)), e) at q))
+    | inr e ↦ let b = ltb-false _ _ e in let y = state_le s (take g.count g.sets) in let w = long in omega arith
+  ]
+
+  -- it is a 65th
+  pub number_full : None ≡ position (λ (x : ℕ). eqb x s) (take g.count g.sets) → g.count ≡ most_states → Numbers s g g None
+  number_full q f = let z = number_none q in (f, omega arith)
+
+  -- it joins them
+  pub number_new : None ≡ position (λ (x : ℕ). eqb x s) (take g.count g.sets) → (g.count ≡ most_states → ⊥)
+      → Joins s g (record { count = g.count + 1; sets = set g.sets g.count s; next = g.next }) g.count
+  number_new q f =
+      let z = number_none q in
+      let w = long in
+      record {
+        few = omega arith;
+        long = length-set g.sets g.count s ∙ l;
+        below = omega arith;
+        number = sym z;
+        found = rw (find_new s (take g.count g.sets) (omega arith), add-one) (take-suc-set g.sets g.count s (omega arith));
+        same = refl;
+      }
+
 -- One event more --------------------------------------------------------------------------------------------------------
 
--- the sets, with one written at its number, are those found with it
-found_with : (sets : List ℕ) (n s k n' : ℕ) → length sets ≡ most_states → n ≤ most_states → k ≡ state_of s (take n sets) → k < most_states
-    → n' ≡ cond (ltb k n) n (k + 1) → take n' (set sets k s) ≡ find s (take n sets)
-found_with sets n s k n' l f q h c = go (ltb k n) refl
-  where
-    long : length (take n sets) ≡ n
-    long = length-take-le n sets (omega arith)
-
-    go : (t : Bool) → ltb k n ≡ t → take n' (set sets k s) ≡ find s (take n sets)
-    go true e =
-        let b = ltb-true k n e in
-        let w = long in
-        let z : n' ≡ n = c ∙ ap (λ (t : Bool). cond t n (k + 1)) e in
-        let at : get_or sets k 0 ≡ s = sym (get_or-take n sets k 0 b) ∙ ap (λ (i : ℕ). get_or (take n sets) i 0) q ∙ state_at s (take n sets) (omega arith) in
-        rw (z, find-old s (take n sets) (omega arith)) (ap (λ (m : List ℕ). take n m) (ap (λ (v : ℕ). set sets k v) (sym at) ∙ set-get_or sets k 0))
-    go false e =
-        let b = ltb-false k n e in
-        let w = long in
-        let y = state_le s (take n sets) in
-        let x : k ≡ n = omega arith in
-        let z : n' ≡ suc n = c ∙ ap (λ (t : Bool). cond t n (k + 1)) e ∙ (omega arith) in
-        rw (z, find_new s (take n sets) (omega arith), x) (take-suc-set sets n s (omega arith))
-
 -- so many events of the row were gone through, and those left add what they add
-pub record Rowing (to : List ℕ) (m i n₀ : ℕ) (sets₀ next₀ sets next : List ℕ) (n e : ℕ) : Type 0 where
-  pub state : i < most_states
-  pub events : m ≤ most_events
-  pub few : n ≤ most_states
-  pub inside : e ≤ m
-  pub long_sets : length sets ≡ most_states
-  pub long_next : length next ≡ most_states * most_events
-  pub left : met_all to e (m - e) (take n sets) ≡ met_all to 0 m (take n₀ sets₀)
-  pub known : (j : ℕ) → j < e → state_of (get_or to j 0) (take n sets) < n
-  pub entry : (j : ℕ) → j < e → get_or next (i * most_events + j) 0 ≡ state_of (get_or to j 0) (take n sets)
-  pub other : (j : ℕ) → ((a : ℕ) → a < m → j ≡ i * most_events + a → ⊥) → get_or next j 0 ≡ get_or next₀ j 0
+pub record Rowing (to : List ℕ) (m i : ℕ) (g₀ g : Grown) (e : ℕ) : Type 0 where
+  pub few : g.count ≤ most_states
+  pub long_sets : length g.sets ≡ most_states
+  pub long_next : length g.next ≡ most_states * most_events
+  pub left : met_all to e (m - e) (take g.count g.sets) ≡ met_all to 0 m (take g₀.count g₀.sets)
+  pub known : (j : ℕ) → j < e → state_of (get_or to j 0) (take g.count g.sets) < g.count
+  pub entry : (j : ℕ) → j < e → get_or g.next (i * most_events + j) 0 ≡ state_of (get_or to j 0) (take g.count g.sets)
+  pub other : (j : ℕ) → ((a : ℕ) → a < m → j ≡ i * most_events + a → ⊥) → get_or g.next j 0 ≡ get_or g₀.next j 0
 
-pub rowing_begin : (to : List ℕ) (m i n : ℕ) (sets next : List ℕ) → n ≤ most_states → i < most_states → m ≤ most_events
-    → length sets ≡ most_states → length next ≡ most_states * most_events → Rowing to m i n sets next sets next n 0
-rowing_begin to m i n sets next f s h l k = record {
-  state = s;
-  events = h;
+pub rowing_begin : (to : List ℕ) (m i : ℕ) (g : Grown) → g.count ≤ most_states
+    → length g.sets ≡ most_states → length g.next ≡ most_states * most_events → Rowing to m i g g 0
+rowing_begin to m i g f l k = record {
   few = f;
-  inside = omega arith;
   long_sets = l;
   long_next = k;
   left = let z : m - 0 ≡ m = omega arith in rw z;
@@ -143,93 +176,99 @@ rowing_begin to m i n sets next f s h l k = record {
   other = λ j b. refl;
 }
 
-module _ (to : List ℕ) (m i n₀ : ℕ) (sets₀ next₀ sets next : List ℕ) (n e : ℕ) (g : Rowing to m i n₀ sets₀ next₀ sets next n e) where
-  long : length (take n sets) ≡ n
-  long = let l = g.long_sets in let f = g.few in length-take-le n sets (omega arith)
-
-  left_on : e < m → met_all to (e + 1) (m - (e + 1)) (find (get_or to e 0) (take n sets)) ≡ met_all to 0 m (take n₀ sets₀)
+module _ (to : List ℕ) (m i : ℕ) (g₀ g : Grown) (e : ℕ) (w : Rowing to m i g₀ g e) where
+  left_on : e < m → met_all to (e + 1) (m - (e + 1)) (find (get_or to e 0) (take g.count g.sets)) ≡ met_all to 0 m (take g₀.count g₀.sets)
   left_on h =
       let z : m - e ≡ suc (m - (e + 1)) = omega arith in
       let y : suc e ≡ e + 1 = omega arith in
-      let q = rw z at g.left in
-      rw y at (sym (met_next to e (m - (e + 1)) (take n sets)) ∙ q)
+      let q = rw z at w.left in
+      rw y at (sym (met_next to e (m - (e + 1)) (take g.count g.sets)) ∙ q)
 
   -- the 65th set has no place
-  pub rowing_over : (s k : ℕ) → e < m → s ≡ get_or to e 0 → k ≡ state_of s (take n sets) → most_states ≤ k
-      → Row to m i n₀ sets₀ sets next₀ next (most_states + 1)
-  rowing_over s k h q p b =
-      let l = long in
-      let few = g.few in
-      let y = state_le s (take n sets) in
-      let new : find s (take n sets) ≡ take n sets ++ (s ∷ []) = find_new s (take n sets) (omega arith) in
-      let a = met_longer to (e + 1) (m - (e + 1)) (find s (take n sets)) in
-      let c : length (find s (take n sets)) ≡ n + 1 = rw (new, length-append) (omega arith) in
-      let r : met_all to (e + 1) (m - (e + 1)) (find s (take n sets)) ≡ met_all to 0 m (take n₀ sets₀) = rw q (left_on h) in
-      let d = ap length r in
-      record {
-        long_sets = g.long_sets;
-        long_next = g.long_next;
-        over = λ x. omega arith;
-        found = λ x. absurd (omega arith);
-        entry = λ x. absurd (omega arith);
-        other = g.other;
-      }
+  pub rowing_over : e < m → (g.count ≡ most_states) × (most_states ≤ state_of (get_or to e 0) (take g.count g.sets))
+      → most_states < length (met_all to 0 m (take g₀.count g₀.sets))
+  rowing_over h (f, b) =
+      let long : length (take g.count g.sets) ≡ g.count = let l = w.long_sets in length-take-le g.count g.sets (omega arith) in
+      let s = get_or to e 0 in
+      let new : find s (take g.count g.sets) ≡ take g.count g.sets ++ (s ∷ []) = find_new s (take g.count g.sets) (omega arith) in
+      let a = met_longer to (e + 1) (m - (e + 1)) (find s (take g.count g.sets)) in
+      let c : length (find s (take g.count g.sets)) ≡ g.count + 1 = rw (new, length-append) (omega arith) in
+      let d = ap length (left_on h) in
+      omega arith
 
-  pub rowing_turn : (s k n' : ℕ) → e < m → s ≡ get_or to e 0 → k ≡ state_of s (take n sets) → k < most_states → n' ≡ cond (ltb k n) n (k + 1)
-      → Rowing to m i n₀ sets₀ next₀ (set sets k s) (set next (i * most_events + e) k) n' (e + 1)
-  rowing_turn s k n' h q p b c =
-      let l = long in
-      let f : take n' (set sets k s) ≡ find s (take n sets) = found_with sets n s k n' g.long_sets g.few p b c in
-      let st = g.state in
-      let ev = g.events in
-      let ls = g.long_sets in
-      let ln = g.long_next in
-      let few : n' ≤ most_states = count_few n k n' g.few b c in
-      let ls' : length (set sets k s) ≡ most_states = length-set sets k s ∙ ls in
-      let lf : length (find s (take n sets)) ≡ n' = sym (ap length f) ∙ length-take-le n' (set sets k s) (omega arith) in
-      let own : state_of s (find s (take n sets)) ≡ k = state_find_self s (take n sets) ∙ sym p in
+  pub rowing_turn : (g' : Grown) (k : ℕ) → i < most_states → m ≤ most_events → e < m → Joins (get_or to e 0) g g' k
+      → Rowing to m i g₀ (record { count = g'.count; sets = g'.sets; next = set g'.next (i * most_events + e) k }) (e + 1)
+  rowing_turn g' k st ev h o =
+      let s = get_or to e 0 in
+      let f = o.found in
+      let ln = w.long_next in
+      let ls = o.long in
+      let few = o.few in
+      let before : length (take g.count g.sets) ≡ g.count = let l = w.long_sets in let b = w.few in length-take-le g.count g.sets (omega arith) in
+      let lf : length (find s (take g.count g.sets)) ≡ g'.count = sym (ap length f) ∙ length-take-le g'.count g'.sets (omega arith) in
+      let own : state_of s (find s (take g.count g.sets)) ≡ k = state_find_self s (take g.count g.sets) ∙ sym o.number in
       record {
-        state = st;
-        events = ev;
         few = few;
-        inside = omega arith;
-        long_sets = ls';
-        long_next = length-set next (i * most_events + e) k ∙ ln;
-        left = rw (f, q) (left_on h);
+        long_sets = ls;
+        long_next = length-set g'.next (i * most_events + e) k ∙ ap length o.same ∙ ln;
+        left = rw f (left_on h);
         known = λ j d. elim (ℕ_discrete j e) [
-          | yes z ↦ rw (z, ← q, f, own) (let x = state_found s (take n sets) in omega arith)
+          | yes z ↦ rw (z, f, own) (let x = state_found s (take g.count g.sets) in let y = o.number in omega arith)
           | no z ↦
-              let o = g.known j (omega arith) in
-              rw (f, state_find (get_or to j 0) s (take n sets) (omega arith)) (let x = find_longer s (take n sets) in omega arith)
+              let p = w.known j (omega arith) in
+              rw (f, state_find (get_or to j 0) s (take g.count g.sets) (omega arith)) (let x = find_longer s (take g.count g.sets) in omega arith)
         ];
         entry = λ j d. elim (ℕ_discrete j e) [
-          | yes z ↦ rw (z, ← q, f, own) (get_or-set_same next (i * most_events + e) k 0 (omega arith))
+          | yes z ↦ rw (z, f, own, o.same) (get_or-set_same g.next (i * most_events + e) k 0 (omega arith))
           | no z ↦
-              let o = g.known j (omega arith) in
-              rw (f, state_find (get_or to j 0) s (take n sets) (omega arith))
-              (get_or-set_other next (i * most_events + e) (i * most_events + j) k 0 (λ (x : i * most_events + j ≡ i * most_events + e). z (omega arith)) ∙ g.entry j (omega arith))
+              let p = w.known j (omega arith) in
+              rw (f, state_find (get_or to j 0) s (take g.count g.sets) (omega arith), o.same)
+              (get_or-set_other g.next (i * most_events + e) (i * most_events + j) k 0 (λ (x : i * most_events + j ≡ i * most_events + e). z (omega arith)) ∙ w.entry j (omega arith))
         ];
-        other = λ j d. get_or-set_other next (i * most_events + e) j k 0 (λ (x : j ≡ i * most_events + e). d e h x) ∙ g.other j d;
+        other = λ j d. rw o.same (get_or-set_other g.next (i * most_events + e) j k 0 (λ (x : j ≡ i * most_events + e). d e h x) ∙ w.other j d);
       }
-    where
-      count_few : (n k n' : ℕ) → n ≤ most_states → k < most_states → n' ≡ cond (ltb k n) n (k + 1) → n' ≤ most_states
-      count_few n k n' f b c = go (ltb k n) c
-        where
-          go : (t : Bool) → n' ≡ cond t n (k + 1) → n' ≤ most_states
-          go true c = omega arith
-          go false c = omega arith
 
-  pub rowing_end : m ≤ e → Row to m i n₀ sets₀ sets next₀ next n
-  rowing_end h =
-      let x = g.inside in
-      let few = g.few in
+  pub rowing_end : m ≤ e → e ≤ m → Row to m i g₀ g
+  rowing_end h x =
       let z : m - e ≡ 0 = omega arith in
-      let q : take n sets ≡ met_all to 0 m (take n₀ sets₀) = sym (met_none to e (take n sets)) ∙ (rw z at g.left) in
+      let q : take g.count g.sets ≡ met_all to 0 m (take g₀.count g₀.sets) = sym (met_none to e (take g.count g.sets)) ∙ (rw z at w.left) in
       record {
-        long_sets = g.long_sets;
-        long_next = g.long_next;
-        over = λ y. absurd (omega arith);
-        found = λ y. q;
-        entry = λ y j d. g.entry j (omega arith) ∙ ap (state_of (get_or to j 0)) q;
-        other = g.other;
+        few = w.few;
+        long_sets = w.long_sets;
+        long_next = w.long_next;
+        found = q;
+        entry = λ j d. w.entry j (omega arith) ∙ ap (state_of (get_or to j 0)) q;
+        other = w.other;
       }
+
+-- The first m of more sets ------------------------------------------------------------------------------------------------
+
+met_same : (a b : List ℕ) (e n : ℕ) (l : List ℕ) → ((j : ℕ) → j < e + n → get_or a j 0 ≡ get_or b j 0) → met_all a e n l ≡ met_all b e n l
+met_same a b e zero l h = rw (met_none a e l, met_none b e l)
+met_same a b e (suc n) l h =
+    rw (met_next a e n l, met_next b e n l, h e (omega arith)) (met_same a b (suc e) n (find (get_or b e 0) l) (λ j k. h j (omega arith)))
+
+-- a row of the first m sets, cut off from the others, is a row of the first m
+module _ (to : List ℕ) (m : ℕ) (fits : m ≤ length to) (g : Grown) where
+  first_long : length (take m to) ≡ m
+  first_long = length-take-le m to fits
+
+  met_first : met_all (take m to) 0 (length (take m to)) (take g.count g.sets) ≡ met_all to 0 m (take g.count g.sets)
+  met_first = rw first_long (met_same (take m to) to 0 m (take g.count g.sets) (λ j h. get_or-take m to j 0 (omega arith)))
+
+  pub over_first : most_states < length (met_all (take m to) 0 (length (take m to)) (take g.count g.sets))
+      → most_states < length (met_all to 0 m (take g.count g.sets))
+  over_first h = rw met_first at h
+
+  pub row_first : (i : ℕ) (g' : Grown) → Row (take m to) (length (take m to)) i g g' → Row to m i g g'
+  row_first i g' r = record {
+    few = r.few;
+    long_sets = r.long_sets;
+    long_next = r.long_next;
+    found = r.found ∙ met_first;
+    entry = λ e h.
+        r.entry e (rw first_long h)
+        ∙ ap (λ (s : ℕ). state_of s (met_all (take m to) 0 (length (take m to)) (take g.count g.sets))) (get_or-take m to e 0 h)
+        ∙ ap (state_of (get_or to e 0)) met_first;
+    other = λ j d. r.other j (λ e h x. d e (rw first_long at h) x);
+  }

@@ -3,18 +3,16 @@
 
 #![tactic(auto)]
 
-ghost use Rattle.std.specs.Prelude.{◌≡◌, cond, ◌+◌, ◌*◌, ◌≤◌, ◌<◌, length, take, ltb};
+ghost use Rattle.std.specs.Prelude.{◌≡◌, ◌≤◌, ◌<◌, eqb, length, position};
 ghost use Rattle.document.specs.Limits.{most_events, most_states};
-ghost use Rattle.document.specs.States.{state_of};
-ghost use Rattle.growing.specs.Growing.{Row, Grows};
+ghost use Rattle.growing.specs.Growing.{Numbers, Rows, Grows};
 
 use limits::{MOST_EVENTS, MOST_STATES, NUMBERS, TRANSITIONS, Transitions};
 
 // "before any event it is {0}"
 const START: u32 = 1;
 
-// The sets found, so many of them, and for each the states that the events lead to, 16 places a state. A count past 64 says
-// that there are more than 64 states, and nothing else.
+// The sets found, so many of them, and for each the states that the events lead to, 16 places a state.
 #[derive(Clone, Copy)]
 pub struct Grown {
     pub count: usize,
@@ -22,79 +20,68 @@ pub struct Grown {
     pub next: Transitions,
 }
 
-// The number of a set among the first n, or n.
-fn place(sets: &[u32; MOST_STATES], n: usize, set: u32) -> usize
-    requires { (n ≤ most_states) × (length sets.now ≡ most_states) }
-    ensures { result ≡ state_of set (take n sets.now) }
+// The number of a set among those found, if it is one of them.
+fn place(found: &[u32], set: u32) -> Option<usize>
+    ensures { result ≡ position (λ x. eqb x set) found.now }
 {
-    let mut i: usize = 0;
-    while i < n {
-        if sets[i] == set {
-            return i;
+    found.iter().position(|&s| s == set)
+}
+
+impl Grown {
+    // The number of a set, which joins those found unless it is one of them; none where it is a 65th.
+    fn number(&mut self, set: u32) -> Option<usize>
+        requires { self.old.count ≤ most_states }
+        ensures { Numbers set self.old self.new result }
+    {
+        if let Some(k) = place(&self.sets[..self.count], set) {
+            return Some(k);
         }
-        i += 1;
+        let k = self.count;
+        if k == MOST_STATES {
+            return None;
+        }
+        self.sets[k] = set;
+        self.count += 1;
+        Some(k)
     }
-    i
+
+    // The row of state i, whose events lead to the sets `to`: each gets its number; none as soon as one has none.
+    fn row(&mut self, i: usize, to: &[u32]) -> Option<()>
+        requires { (self.old.count ≤ most_states) × (i < most_states) × (length to.now ≤ most_events) }
+        ensures { Rows to.now (length to.now) i self.old self.new result }
+    {
+        for e in 0..to.len() {
+            let k = self.number(to[e])?;
+            self.next[i * MOST_EVENTS + e] = k as u8;
+        }
+        Some(())
+    }
 }
 
-// How many sets there are with the one at place k.
-fn count_with(n: usize, k: usize) -> usize
-    requires { k < most_states }
-    ensures { result ≡ cond (ltb k n) n (k + 1) }
-{
-    if k < n {
-        return n;
-    }
-    k + 1
-}
-
-// The row of state i, whose events lead to the sets `to`: each gets its number, and those not met before join the sets found.
-// A set that stands among them already is written again where it stands. Answers how many sets there are then, or 65 as soon
-// as one finds no place.
-fn row(
-    sets: &mut [u32; MOST_STATES],
-    next: &mut Transitions,
-    count: usize,
-    i: usize,
-    to: &[u32; MOST_EVENTS],
+// All states, found by going through them in number order and, within one, through the events in number order; none where
+// there are more than 64.
+pub fn grow(
+    after: &[u32; NUMBERS],
+    named: &[u32; MOST_EVENTS],
+    base: u32,
     events: usize,
-) -> usize
-    requires { (count ≤ most_states) × (i < most_states) × (events ≤ most_events) × (length sets.old ≡ most_states) × (length next.old ≡ most_states * most_events) }
-    ensures { Row to.now events i count sets.old sets.new next.old next.new result }
-{
-    let mut n = count;
-    let mut e: usize = 0;
-    while e < events {
-        let set = to[e];
-        let k = place(sets, n, set);
-        if MOST_STATES <= k {
-            return MOST_STATES + 1;
-        }
-        sets[k] = set;
-        next[i * MOST_EVENTS + e] = k as u8;
-        n = count_with(n, k);
-        e += 1;
-    }
-    n
-}
-
-// All states, found by going through them in number order and, within one, through the events in number order.
-pub fn grow(after: &[u32; NUMBERS], named: &[u32; MOST_EVENTS], base: u32, events: usize) -> Grown
+) -> Option<Grown>
     requires { events ≤ most_events }
     ensures { Grows after.now named.now base events result }
 {
     let mut sets = [0u32; MOST_STATES];
     sets[0] = START;
-    let mut next = [0u8; TRANSITIONS];
-    let mut count: usize = 1;
-    let mut i: usize = 0;
-    while i < count {
-        let to = nexts::moves(after, named, base, sets[i]);
-        count = row(&mut sets, &mut next, count, i, &to, events);
-        if MOST_STATES < count {
-            return Grown { count, sets, next };
-        }
+    let mut grown = Grown {
+        count: 1,
+        sets,
+        next: [0u8; TRANSITIONS],
+    };
+    let mut i = 0;
+    // Stays: each turn can add states to go through, so no range says the end.
+    while i < grown.count {
+        let to = nexts::moves(after, named, base, grown.sets[i]);
+        grown.row(i, &to[..events])?;
         i += 1;
     }
-    Grown { count, sets, next }
+    Some(grown)
 }

@@ -1,15 +1,12 @@
 -- Document 01, "The table" (hopeful): what is promised of words of bits for states.
 -- Assumes nothing.
-use Rattle.std.specs.Prelude.{ℕ, ◌≡◌, cond, ◌&&◌, List, get_or, ltb}
+use Rattle.std.specs.Prelude.{ℕ, ◌≡◌, cond, ◌&&◌, ltb}
 use Rattle.document.specs.Refusals.{badProperty, number}
 use Rattle.document.specs.Positions.{holds}
 use Rattle.document.specs.Property as document
 use Rattle.hopes.specs.declared.Checked.{Checked}
 
--- the bits of r are those of the first n states whose verdict is asked for; of all states
-pub record Asking (asked : ℕ) (verdicts : List ℕ) (n r : ℕ) : Type 0 where
-  pub says : (s : ℕ) → holds r s ≡ (ltb s n && document.asks_for asked (get_or verdicts s 0))
-
+-- the bits of r are the states whose verdict is asked for
 pub record Asks (p : document.Property) (r : ℕ) : Type 0 where
   pub says : (s : ℕ) → holds r s ≡ (ltb s p.states && document.is_asked p s)
 

@@ -1,14 +1,14 @@
 -- Laws of the hopeful states: the turns of the loops over words of bits, what a round is to the definition's rounds, and
 -- that a round which finds nothing new is the last that finds any.
 -- Assumes nothing.
-use Rattle.std.specs.Prelude.{ℕ, zero, suc, ◌+◌, ◌-◌, ◌*◌, ◌^◌, ◌≤◌, ◌<◌, ◌≡◌, refl, Bool, true, false, cond, ◌&&◌, ◌||◌, List, length, get_or, set, replicate, eqb, ltb}
-use Rattle.std.proofs.Common.{arith, add-one, sym, ap, ap₂, ◌∙◌, inl, inr, length-set, get_or-set_same, get_or-set_other, ext_get_or, pow_mono, lt-ltb, le-ltb, ltb-true, ltb-false, eq-eqb, ne_eqb}
+use Rattle.std.specs.Prelude.{ℕ, zero, suc, ◌+◌, ◌-◌, ◌*◌, ◌^◌, ◌≤◌, ◌<◌, ◌≡◌, refl, Bool, true, false, ◌&&◌, ◌||◌, List, length, get_or, take, set, replicate, ltb}
+use Rattle.std.proofs.Common.{arith, add-one, sym, ap, ap₂, ◌∙◌, inl, inr, length-take-le, get_or-take, get_or-set_same, get_or-set_other, ext_get_or, pow_mono, lt-ltb, ltb-true, ltb-false}
 use Rattle.std.proofs.Math.Decide.{ℕ_discrete}
-use Rattle.std.proofs.Math.Bool.{and-false, or_comm, or-false}
+use Rattle.std.proofs.Math.Bool.{or_comm, or-true, or-false}
 use Rattle.std.proofs.lemmas.List.{length-replicate}
 use Rattle.std.specs.Int.Bits.{bit_or}
 use Rattle.document.specs.Lists.{every_below, some_below, tabulate}
-use Rattle.document.specs.Limits.{most_events, most_states}
+use Rattle.document.specs.Limits.{most_events}
 use Rattle.document.specs.Positions.{holds}
 use Rattle.document.specs.Property.{Property, in_range, next_state, verdict, asks_for, is_asked, leads_in, leads_after, leads, every_event, hopeful}
 use Rattle.basics.specs.Tests.{decided}
@@ -17,9 +17,8 @@ use Rattle.basics.specs.Lists.{tabulate_at, length-tabulate, tabulate-past, tabu
 use Rattle.words.specs.Range.{InRange, in_range_range, below_every}
 use Rattle.bits.specs.Bits.{meets}
 use Rattle.bits.specs.BitsLaws.{meets-zero, meets_or, meets_pow}
-use Rattle.hopes.specs.Hoping.{Asks, Asking, Leading, Hopes}
-use Rattle.property.specs.Meaning.{Within}
-use Rattle.hopes.specs.Steps.{Ways, AllWays, Round, Reached}
+use Rattle.hopes.specs.Hoping.{Asks, Leading, Hopes}
+use Rattle.hopes.specs.Steps.{Those, Ways, AllWays, Round, Reached}
 
 -- Tests of the numbers below n, by what each is.
 pub some_same : (n : ℕ) (f g : ℕ → Bool) → ((k : ℕ) → k < n → f k ≡ g k) → some_below n f ≡ some_below n g
@@ -36,114 +35,104 @@ none_down zero s = refl
 none_down (suc n) zero = refl
 none_down (suc n) (suc s) = none_down n s
 
--- One number more in a set that holds those of the first n that pass a test.
-holds_if : (h : Bool) (n k : ℕ) → holds (cond h (2 ^ n) 0) k ≡ eqb k n && h
-holds_if false n k = holds-zero k ∙ sym (and-false (eqb k n))
-holds_if true n k = elim (ℕ_discrete k n) [
-  | yes q ↦ rw q (holds_pow_same n ∙ sym (ap (λ (t : Bool). t && true) (eq-eqb n n refl)))
-  | no q ↦ holds_pow_other n k q ∙ sym (ap (λ (t : Bool). t && true) (ne_eqb k n q))
-]
+-- The numbers below n that pass a test, one number more.
+module _ (says : ℕ → Bool → Type 0) where
+  pub those_none : Those says 0 0
+  those_none = record { each = λ s h. absurd (omega arith); past = λ s h. holds-zero s }
 
-below_more : (f : ℕ → Bool) (n k : ℕ) → (ltb k n && f k) || (eqb k n && f n) ≡ ltb k (n + 1) && f k
-below_more f n k = elim (ℕ_discrete k n) [
-  | yes q ↦ rw (q, le-ltb n n (omega arith), eq-eqb n n refl, lt-ltb n (n + 1) (omega arith))
-  | no q ↦ rw (ne_eqb k n q) (elim (decided (ltb k n)) [
-    | inl l ↦ let m = ltb-true k n l in rw (l, lt-ltb k (n + 1) (omega arith)) (or-false (f k))
-    | inr l ↦ let m = ltb-false k n l in rw (l, le-ltb k (n + 1) (omega arith))
-  ])
-]
+  pub those_held : (n r one : ℕ) → Those says n r → says n true → one ≡ 2 ^ n → Those says (n + 1) (bit_or r one)
+  those_held n r one t h o = record {
+    each = λ s l. elim (ℕ_discrete s n) [
+      | yes q ↦ let z : holds (bit_or r one) s ≡ true = rw (q, o) (holds_or r (2 ^ n) n ∙ ap (λ (b : Bool). holds r n || b) (holds_pow_same n) ∙ or-true (holds r n)) in rw (z, q) h
+      | no q ↦ rw (other s q) (t.each s (omega arith))
+    ];
+    past = λ s l. other s (λ (q : s ≡ n). omega arith) ∙ t.past s (omega arith);
+  }
+    where
+      other : (s : ℕ) → (s ≡ n → ⊥) → holds (bit_or r one) s ≡ holds r s
+      other s q = rw o (holds_or r (2 ^ n) s ∙ ap (λ (b : Bool). holds r s || b) (holds_pow_other n s q) ∙ or-false (holds r s))
 
-set_more : (f : ℕ → Bool) (n found one part : ℕ) (h : Bool) → ((k : ℕ) → holds found k ≡ (ltb k n && f k)) → h ≡ f n → one ≡ 2 ^ n
-    → part ≡ cond h one 0 → (k : ℕ) → holds (bit_or found part) k ≡ (ltb k (n + 1) && f k)
-set_more f n found one part h u q o e k =
-    holds_or found part k
-    ∙ ap₂ ◌||◌ (u k) (ap (λ (x : ℕ). holds x k) (e ∙ ap (λ (x : ℕ). cond h x 0) o) ∙ holds_if h n k ∙ ap (λ (t : Bool). eqb k n && t) q)
-    ∙ below_more f n k
+  pub those_other : (n r : ℕ) → Those says n r → says n false → Those says (n + 1) r
+  those_other n r t h = record {
+    each = λ s l. elim (ℕ_discrete s n) [
+      | yes q ↦ rw (q, t.past n (omega arith)) h
+      | no q ↦ t.each s (omega arith)
+    ];
+    past = λ s l. t.past s (omega arith);
+  }
 
-set_none : (f : ℕ → Bool) (k : ℕ) → holds 0 k ≡ (ltb k 0 && f k)
-set_none f k = holds-zero k ∙ sym (ap (λ (t : Bool). t && f k) (le-ltb k 0 (omega arith)))
+  pub those_all : (n m r : ℕ) → Those says n r → n ≤ m → m ≤ n → Those says m r
+  those_all n m r t h l = let z : n ≡ m = omega arith in rw z at t
 
--- The states whose verdict is asked for.
-pub asking_none : (asked : ℕ) (verdicts : List ℕ) → Asking asked verdicts 0 0
-asking_none asked verdicts = record { says = set_none (λ s. asks_for asked (get_or verdicts s 0)) }
+  -- what the set holds, where the test is a definition's
+  those_says : (f : ℕ → Bool) (n r : ℕ) → Those says n r → ((s : ℕ) (b : Bool) → says s b → b ≡ f s) → (s : ℕ) → holds r s ≡ (ltb s n && f s)
+  those_says f n r t e s = elim (decided (ltb s n)) [
+    | inl l ↦ rw l (e s (holds r s) (t.each s (ltb-true s n l)))
+    | inr l ↦ rw l (t.past s (ltb-false s n l))
+  ]
 
-pub asking_more : (asked n found one part : ℕ) (verdicts : List ℕ) (h : Bool) → Asking asked verdicts n found → h ≡ asks_for asked (get_or verdicts n 0)
-    → one ≡ 2 ^ n → part ≡ cond h one 0 → Asking asked verdicts (n + 1) (bit_or found part)
-asking_more asked n found one part verdicts h g q o e = record { says = set_more (λ s. asks_for asked (get_or verdicts s 0)) n found one part h g.says q o e }
+  -- the states whose verdict is asked for; one round
+  pub those_asked : (p : Property) (r : ℕ) → Those says p.states r → ((s : ℕ) (b : Bool) → says s b → b ≡ asks_for p.asked (get_or p.verdicts s 0)) → Asks p r
+  unfolding is_asked verdict
+  those_asked p r t e = record { says = those_says (λ s. asks_for p.asked (get_or p.verdicts s 0)) p.states r t e }
 
-pub asking_all : (p : Property) (n r : ℕ) → Asking p.asked p.verdicts n r → n ≤ p.states → p.states ≤ n → Asks p r
-unfolding is_asked verdict
-asking_all p n r g h l = let z : n ≡ p.states = omega arith in record { says = rw z at g.says }
-
--- One round.
-pub round_none : (ways : List ℕ) (goal : ℕ) → Round ways goal 0 0
-round_none ways goal = record { says = set_none (λ s. meets (get_or ways s 0) goal) }
-
-pub round-more : (ways : List ℕ) (goal n found one part : ℕ) (h : Bool) → Round ways goal n found → h ≡ meets (get_or ways n 0) goal
-    → one ≡ 2 ^ n → part ≡ cond h one 0 → Round ways goal (n + 1) (bit_or found part)
-round-more ways goal n found one part h g q o e = record { says = set_more (λ s. meets (get_or ways s 0) goal) n found one part h g.says q o e }
-
-pub round_all : (ways : List ℕ) (goal n m r : ℕ) → Round ways goal n r → n ≤ m → m ≤ n → Round ways goal m r
-round_all ways goal n m r g h l = let z : n ≡ m = omega arith in rw z at g
+  pub those_meet : (ways : List ℕ) (goal n r : ℕ) → Those says n r → ((s : ℕ) (b : Bool) → says s b → b ≡ meets (get_or ways s 0) goal) → Round ways goal n r
+  those_meet ways goal n r t e = record { says = those_says (λ s. meets (get_or ways s 0) goal) n r t e }
 
 -- The ways from one state, and from all.
 pub ways_none : (next : List ℕ) (allowed s : ℕ) → Ways next allowed 0 s 0
 unfolding some_below
 ways_none next allowed s = record { says = meets-zero }
 
-meets_if : (h : Bool) (to goal : ℕ) → meets (cond h (2 ^ to) 0) goal ≡ h && holds goal to
-meets_if false to goal = meets-zero goal
-meets_if true to goal = meets_pow to goal
-
-pub ways_to : (next : List ℕ) (events states s e to : ℕ) → Within next events states → s < states → e < events
-    → to ≡ get_or next (s * most_events + e) 0 → to < most_states
-ways_to next events states s e to w h l q = let few = w.few_states_lem in omega (arith, w.entry s e h l)
-
-pub ways_more : (next : List ℕ) (allowed e s found to one part : ℕ) (h : Bool) → Ways next allowed e s found
-    → to ≡ get_or next (s * most_events + e) 0 → h ≡ holds allowed e → one ≡ 2 ^ to → part ≡ cond h one 0
-    → Ways next allowed (e + 1) s (bit_or found part)
-ways_more next allowed e s found to one part h g q a o z = record {
+pub ways_held : (next : List ℕ) (allowed e s found to one : ℕ) (h : Bool) → Ways next allowed e s found
+    → to ≡ get_or next (s * most_events + e) 0 → h ≡ holds allowed e → h ≡ true → one ≡ 2 ^ to → Ways next allowed (e + 1) s (bit_or found one)
+ways_held next allowed e s found to one h g q a t o = record {
   says = λ goal.
-      meets_or found part goal
-      ∙ ap₂ ◌||◌ (g.says goal) (ap (λ (x : ℕ). meets x goal) (z ∙ ap (λ (x : ℕ). cond h x 0) o) ∙ meets_if h to goal ∙ ap₂ (λ (x : Bool) (y : ℕ). x && holds goal y) a q)
-      ∙ or_comm (some_below e (λ i. holds allowed i && holds goal (get_or next (s * most_events + i) 0))) (holds allowed e && holds goal (get_or next (s * most_events + e) 0))
-      ∙ sym (some_next e (λ i. holds allowed i && holds goal (get_or next (s * most_events + i) 0)));
+      meets_or found one goal
+      ∙ ap₂ ◌||◌ (g.says goal) (ap (λ (x : ℕ). meets x goal) o ∙ meets_pow to goal ∙ ap (holds goal) q)
+      ∙ or_comm (some_below e (λ i. holds allowed i && holds goal (get_or next (s * most_events + i) 0))) (holds goal (get_or next (s * most_events + e) 0))
+      ∙ sym (some_next e (λ i. holds allowed i && holds goal (get_or next (s * most_events + i) 0))
+      ∙ ap (λ (b : Bool). (b && holds goal (get_or next (s * most_events + e) 0)) || some_below e (λ i. holds allowed i && holds goal (get_or next (s * most_events + i) 0))) (sym a ∙ t));
+}
+
+pub ways_other : (next : List ℕ) (allowed e s found : ℕ) (h : Bool) → Ways next allowed e s found → h ≡ holds allowed e → h ≡ false
+    → Ways next allowed (e + 1) s found
+ways_other next allowed e s found h g a t = record {
+  says = λ goal.
+      g.says goal
+      ∙ sym (some_next e (λ i. holds allowed i && holds goal (get_or next (s * most_events + i) 0))
+      ∙ ap (λ (b : Bool). (b && holds goal (get_or next (s * most_events + e) 0)) || some_below e (λ i. holds allowed i && holds goal (get_or next (s * most_events + i) 0))) (sym a ∙ t));
 }
 
 pub ways_all : (next : List ℕ) (allowed n m s r : ℕ) → Ways next allowed n s r → n ≤ m → m ≤ n → Ways next allowed m s r
 ways_all next allowed n m s r g h l = let z : n ≡ m = omega arith in rw z at g
 
-pub all_ways_none : (next : List ℕ) (allowed events : ℕ) (r : List ℕ) → length r ≡ most_states → AllWays next allowed events 0 r
-all_ways_none next allowed events r e = record { long = e; way = λ s l. absurd (omega arith) }
+pub all_ways_none : (next : List ℕ) (allowed events : ℕ) (r : List ℕ) → AllWays next allowed events 0 r
+all_ways_none next allowed events r = record { way = λ s l. absurd (omega arith) }
 
-pub all_ways_more : (next : List ℕ) (allowed events states s v : ℕ) (r : List ℕ) → AllWays next allowed events s r → Within next events states
-    → s < states → Ways next allowed events s v → AllWays next allowed events (s + 1) (set r s v)
-all_ways_more next allowed events states s v r g w l h =
-    let m = g.long in
-    let few = w.few_states_lem in
-    record {
-      long = length-set r s v ∙ m;
-      way = λ k b. elim (ℕ_discrete k s) [
-        | yes q ↦ rw (q, get_or-set_same r s v 0 (omega arith)) h
-        | no q ↦ rw (get_or-set_other r s k v 0 q) (g.way k (omega arith))
-      ];
-    }
+pub all_ways_more : (next : List ℕ) (allowed events s v : ℕ) (r : List ℕ) → AllWays next allowed events s r → s < length r
+    → Ways next allowed events s v → AllWays next allowed events (s + 1) (set r s v)
+all_ways_more next allowed events s v r g l h = record {
+  way = λ k b. elim (ℕ_discrete k s) [
+    | yes q ↦ rw (q, get_or-set_same r s v 0 l) h
+    | no q ↦ rw (get_or-set_other r s k v 0 q) (g.way k (omega arith))
+  ];
+}
 
 pub all_ways_all : (next : List ℕ) (allowed events n m : ℕ) (r : List ℕ) → AllWays next allowed events n r → n ≤ m → m ≤ n → AllWays next allowed events m r
 all_ways_all next allowed events n m r g h l = let z : n ≡ m = omega arith in rw z at g
 
--- The rounds: so many are left, and what was found is what the definition finds in the rounds before them, whatever table
--- has these ways.
-pub record Rounds (ways : List ℕ) (states marked left found : ℕ) : Type 0 where
-  pub few : left ≤ states
+-- The rounds: so many are done, and what was found is what the definition finds in them, whatever table has these ways.
+pub record Rounds (ways : List ℕ) (states marked done found : ℕ) : Type 0 where
+  pub few : done ≤ states
   pub finds : (p : Property) (allowed : ℕ) → states ≡ p.states → AllWays p.next allowed p.events states ways
-      → (s : ℕ) → holds found s ≡ get_or (leads_after p (holds marked) (holds allowed) (p.states - left)) s false
+      → (s : ℕ) → holds found s ≡ get_or (leads_after p (holds marked) (holds allowed) done) s false
 
-pub rounds_begin : (ways : List ℕ) (states marked : ℕ) → Rounds ways states marked states 0
+pub rounds_begin : (ways : List ℕ) (states marked : ℕ) → Rounds ways states marked 0 0
 unfolding leads_after
 rounds_begin ways states marked = record {
   few = omega arith;
-  finds = λ p allowed e a s. let z : p.states - states ≡ 0 = omega arith in rw z (holds-zero s ∙ sym (none_down p.states s));
+  finds = λ p allowed e a s. holds-zero s ∙ sym (none_down p.states s);
 }
 
 after-length : (p : Property) (marked allowed : ℕ → Bool) (n : ℕ) → length (leads_after p marked allowed n) ≡ p.states
@@ -173,20 +162,18 @@ round_finds p marked allowed found more n ways a r f s = elim (decided (ltb s p.
       ∙ sym (tabulate-past p.states (leads_in p (holds marked) (holds allowed) (leads_after p (holds marked) (holds allowed) n)) s false (ltb-false s p.states l))
 ]
 
-pub rounds_turn : (ways : List ℕ) (states marked left found more : ℕ) → Rounds ways states marked left found → 0 < left
-    → Round ways (bit_or marked found) states more → Rounds ways states marked (left - 1) more
-rounds_turn ways states marked left found more g h r = let l = g.few in record {
+pub rounds_turn : (ways : List ℕ) (states marked done found more : ℕ) → Rounds ways states marked done found → done < states
+    → Round ways (bit_or marked found) states more → Rounds ways states marked (done + 1) more
+rounds_turn ways states marked done found more g h r = record {
   few = omega arith;
-  finds = λ p allowed e a s.
-      let z : p.states - (left - 1) ≡ suc (p.states - left) = omega arith in
-      rw z (round_finds p marked allowed found more (p.states - left) ways (rw e at a) (rw e at r) (g.finds p allowed e a) s);
+  finds = λ p allowed e a s. rw add-one (round_finds p marked allowed found more done ways (rw e at a) (rw e at r) (g.finds p allowed e a) s);
 }
 
-pub rounds_end : (ways : List ℕ) (states marked left found : ℕ) → Rounds ways states marked left found → left ≤ 0 → Reached ways states marked found
+pub rounds_end : (ways : List ℕ) (states marked done found : ℕ) → Rounds ways states marked done found → states ≤ done → Reached ways states marked found
 unfolding leads
-rounds_end ways states marked left found g h = record {
+rounds_end ways states marked done found g h = let few = g.few in record {
   says = λ p allowed e a.
-      let z : p.states - left ≡ p.states = omega arith in
+      let z : done ≡ p.states = omega arith in
       record { says = λ s. rw z at (g.finds p allowed e a s) };
 }
 
@@ -199,29 +186,31 @@ after-stays p marked allowed n (suc k) e =
     let z : suc k + n ≡ suc (k + n) = omega arith in
     rw z (ap (λ (l : List Bool). tabulate p.states (leads_in p marked allowed l)) (after-stays p marked allowed n k e) ∙ e)
 
-stays : (p : Property) (marked allowed left found more : ℕ) (ways : List ℕ) → left ≤ p.states → AllWays p.next allowed p.events p.states ways
+stays : (p : Property) (marked allowed done found more : ℕ) (ways : List ℕ) → done ≤ p.states → AllWays p.next allowed p.events p.states ways
     → Round ways (bit_or marked found) p.states more → more ≡ found
-    → ((s : ℕ) → holds found s ≡ get_or (leads_after p (holds marked) (holds allowed) (p.states - left)) s false) → Leading p marked allowed found
+    → ((s : ℕ) → holds found s ≡ get_or (leads_after p (holds marked) (holds allowed) done) s false) → Leading p marked allowed found
 unfolding leads
-stays p marked allowed left found more ways few a r q f =
-    let n = p.states - left in
-    let e : leads_after p (holds marked) (holds allowed) (suc n) ≡ leads_after p (holds marked) (holds allowed) n =
-    ext_get_or false _ _ (after-length p (holds marked) (holds allowed) (suc n) ∙ sym (after-length p (holds marked) (holds allowed) n))
-    (λ s l. sym (round_finds p marked allowed found more n ways a r f s) ∙ ap (λ (x : ℕ). holds x s) q ∙ f s) in
-    let z : left + n ≡ p.states = omega arith in
-    let g = rw z at (after-stays p (holds marked) (holds allowed) n left e) in
+stays p marked allowed done found more ways few a r q f =
+    let e : leads_after p (holds marked) (holds allowed) (suc done) ≡ leads_after p (holds marked) (holds allowed) done =
+    ext_get_or false _ _ (after-length p (holds marked) (holds allowed) (suc done) ∙ sym (after-length p (holds marked) (holds allowed) done))
+    (λ s l. sym (round_finds p marked allowed found more done ways a r f s) ∙ ap (λ (x : ℕ). holds x s) q ∙ f s) in
+    let z : p.states - done + done ≡ p.states = omega arith in
+    let g = rw z at (after-stays p (holds marked) (holds allowed) done (p.states - done) e) in
     record { says = λ s. f s ∙ ap (λ (l : List Bool). get_or l s false) (sym g) }
 
-pub rounds_same : (ways : List ℕ) (states marked left found more : ℕ) → Rounds ways states marked left found → 0 < left
+pub rounds_same : (ways : List ℕ) (states marked done found more : ℕ) → Rounds ways states marked done found
     → Round ways (bit_or marked found) states more → more ≡ found → Reached ways states marked found
-rounds_same ways states marked left found more g h r q = let few = g.few in record {
+rounds_same ways states marked done found more g r q = let few = g.few in record {
   says = λ p allowed e a.
-      stays p marked allowed left found more ways (omega arith) (rw e at a) (rw e at r) q (g.finds p allowed e a);
+      stays p marked allowed done found more ways (omega arith) (rw e at a) (rw e at r) q (g.finds p allowed e a);
 }
 
 pub reached_leads : (p : Property) (ways : List ℕ) (marked allowed r : ℕ) → AllWays p.next allowed p.events p.states ways
-    → Reached ways p.states marked r → Leading p marked allowed r
-reached_leads p ways marked allowed r a g = g.says p allowed refl a
+    → p.states ≤ length ways → Reached (take p.states ways) (length (take p.states ways)) marked r → Leading p marked allowed r
+reached_leads p ways marked allowed r a l g =
+    let n : length (take p.states ways) ≡ p.states = length-take-le p.states ways l in
+    let b : AllWays p.next allowed p.events p.states (take p.states ways) = record { way = λ s h. rw (get_or-take p.states ways s 0 h) (a.way s h) } in
+    g.says p allowed n (rw n b)
 
 -- What is found depends on what is marked among the states and what is allowed among the events, and on nothing else.
 pub leads_same : (p : Property) (marked marked' allowed allowed' : ℕ → Bool) → InRange p → ((s : ℕ) → s < p.states → marked s ≡ marked' s)
@@ -248,17 +237,18 @@ hopes_of p marked r h a l =
     (λ k m. every-event k (omega arith)) p.states in
     record { says = λ s. l.says s ∙ ap (λ (x : List Bool). get_or x s false) e }
 
--- The returns of the test whether a verdict is asked for.
-pub asks_undecided : (asked v : ℕ) → v ≡ 0 → false ≡ asks_for asked v
+-- The test whether a verdict is asked for.
+pub asks_undecided : (asked v : ℕ) → v < 1 → false ≡ asks_for asked v
 unfolding asks_for
-asks_undecided asked v h = rw h
+asks_undecided asked zero h = refl
+asks_undecided asked (suc v) h = absurd (omega arith)
 
-pub asks_past : (asked v : ℕ) → asked < 256 → (v ≡ 0 → ⊥) → 8 ≤ v - 1 → false ≡ asks_for asked v
+pub asks_past : (asked v : ℕ) → asked < 256 → 8 < v → false ≡ asks_for asked v
 unfolding asks_for
-asks_past asked zero a n h = refl
-asks_past asked (suc v) a n h = sym (holds_high asked v (omega (arith, pow_mono {i = 8} {j = v} (omega arith))))
+asks_past asked zero a h = refl
+asks_past asked (suc v) a h = sym (holds_high asked v (omega (arith, pow_mono {i = 8} {j = v} (omega arith))))
 
-pub asks_at : (asked v : ℕ) → (v ≡ 0 → ⊥) → holds asked (v - 1) ≡ asks_for asked v
+pub asks_at : (asked v a w : ℕ) (r : Bool) → 1 ≤ v → a ≡ asked → w ≡ v → r ≡ holds a (w - 1) → r ≡ asks_for asked v
 unfolding asks_for
-asks_at asked zero n = absurd (n refl)
-asks_at asked (suc v) n = let z : suc v - 1 ≡ v = omega arith in rw z
+asks_at asked zero a w r n p q e = absurd (omega arith)
+asks_at asked (suc v) a w r n p q e = let z : suc v - 1 ≡ v = omega arith in e ∙ rw (p, q, z)

@@ -4,134 +4,123 @@
 
 #![tactic(auto)]
 
-ghost use Rattle.std.specs.Prelude.{◌≡◌, true, ◌≤◌, ◌<◌};
+ghost use Rattle.std.specs.Prelude.{ℕ, ◌≡◌, ◌≤◌, ◌<◌, length};
 ghost use Rattle.document.specs.Limits.{most_states};
-ghost use Rattle.document.specs.Property.{in_range, asks_for};
+ghost use Rattle.document.specs.Property.{asks_for};
 ghost use Rattle.property.specs.Meaning.{meaning};
 ghost use Rattle.hopes.specs.Hoping.{Leading, Hopes, Asks, Checks};
-ghost use Rattle.property.specs.Meaning.{Within};
-ghost use Rattle.hopes.specs.Steps.{Ways, AllWays, Round, Reached};
+ghost use Rattle.hopes.specs.Steps.{Those, Ways, AllWays, Round, Reached};
 
-use limits::{MOST_EVENTS, MOST_STATES, Transitions};
+use limits::{MOST_EVENTS, MOST_STATES};
+use property::{Property, Taken};
 
 // Every event that can be declared.
 const EVERY_EVENT: u64 = 65535;
 
 // Whether a verdict is among those asked for.
+#[tactic(auto, using(crate::specs::LeadsLaws::asks_undecided, crate::specs::LeadsLaws::asks_past))]
 pub fn asks_for(asked: u8, verdict: u8) -> bool
     ensures { result ≡ asks_for asked verdict }
 {
-    if verdict == 0 {
-        return false;
+    match verdict {
+        1..=8 => bits::has(u64::from(asked), usize::from(verdict) - 1),
+        _ => false,
     }
-    let place = verdict - 1;
-    if 8 <= place {
-        return false;
-    }
-    (asked >> place) % 2 == 1
 }
 
-// The states whose verdict is asked for, as bits.
-pub fn asked_states(p: property::Property) -> u64
-    requires { in_range (meaning p) ≡ true }
-    ensures { Asks (meaning p) result }
+// The numbers below n that pass a test, as bits.
+fn those<F: Fn(usize) -> bool>(n: usize, test: F) -> u64
+    requires few { n ≤ most_states }
+    requires callable { (s : ℕ) → s < n → F.pre test s }
+    ensures { Those (F.post test) n result }
 {
-    let verdicts = p.verdicts;
-    let asked = p.asked;
-    let states = p.states;
-    let mut found = 0u64;
-    let mut s: usize = 0;
-    while s < states {
-        found = found | bits::set_if(asks_for(asked, verdicts[s]), bits::only(s));
-        s += 1;
+    let mut found = 0;
+    for s in 0..n {
+        if test(s) {
+            found |= bits::only(s);
+        }
     }
     found
 }
 
-// The states that an allowed event leads to from state s, as bits.
-fn ways(next: &Transitions, s: usize, events: usize, states: usize, allowed: u64) -> u64
-    requires { Within next.now events states × (s < states) }
-    ensures { Ways next.now allowed events s result }
+// The states whose verdict is asked for, as bits.
+pub fn asked_states(taken: &Taken) -> u64
+    ensures { Asks (meaning taken.now.property) result }
 {
-    let mut found = 0u64;
-    let mut e: usize = 0;
-    while e < events {
-        let to = property::wide(next[s * MOST_EVENTS + e]);
-        found = found | bits::set_if(bits::has(allowed, e), bits::only(to));
-        e += 1;
+    let p = &taken.property;
+    those(p.states, |s| asks_for(p.asked, p.verdicts[s]))
+}
+
+// The states that an allowed event leads to from state s, as bits.
+fn ways(taken: &Taken, s: usize, allowed: u64) -> u64
+    requires { s < taken.now.property.states }
+    ensures { Ways taken.now.property.next allowed taken.now.property.events s result }
+{
+    let p = &taken.property;
+    let mut found = 0;
+    for e in 0..p.events {
+        if bits::has(allowed, e) {
+            found |= bits::only(usize::from(p.next[s * MOST_EVENTS + e]));
+        }
     }
     found
 }
 
 // For each state the states that an allowed event leads to from it: the one pass over the table that `leads` makes.
-fn all_ways(next: &Transitions, events: usize, states: usize, allowed: u64) -> [u64; MOST_STATES]
-    requires { Within next.now events states }
-    ensures { AllWays next.now allowed events states result }
+fn all_ways(taken: &Taken, allowed: u64) -> [u64; MOST_STATES]
+    ensures { AllWays taken.now.property.next allowed taken.now.property.events taken.now.property.states result }
 {
-    let mut found = [0u64; MOST_STATES];
-    let mut s: usize = 0;
-    while s < states {
-        found[s] = ways(next, s, events, states, allowed);
-        s += 1;
+    let mut found = [0; MOST_STATES];
+    for s in 0..taken.property.states {
+        found[s] = ways(taken, s, allowed);
     }
     found
 }
 
 // One round: the states from which an event leads to one of a set of states.
-fn round(ways: &[u64; MOST_STATES], states: usize, goal: u64) -> u64
-    requires { states ≤ most_states }
-    ensures { Round ways.now goal states result }
+fn round(ways: &[u64], goal: u64) -> u64
+    requires { length ways.now ≤ most_states }
+    ensures { Round ways.now goal (length ways.now) result }
 {
-    let mut found = 0u64;
-    let mut s: usize = 0;
-    while s < states {
-        found = found | bits::set_if(bits::meet(ways[s], goal), bits::only(s));
-        s += 1;
-    }
-    found
+    those(ways.len(), |s| bits::meet(ways[s], goal))
 }
 
 // The states from which one or more events lead to a marked state, from the ways of each state. Each round is one operation
 // on a word for each state, and there are at most as many rounds as states: the first that finds nothing new is the last.
-fn rounds(ways: &[u64; MOST_STATES], states: usize, marked: u64) -> u64
-    requires { states ≤ most_states }
-    ensures { Reached ways.now states marked result }
+fn rounds(ways: &[u64], marked: u64) -> u64
+    requires { length ways.now ≤ most_states }
+    ensures { Reached ways.now (length ways.now) marked result }
 {
-    let mut found = 0u64;
-    let mut left = states;
-    while 0 < left {
-        let more = round(ways, states, marked | found);
+    let mut found = 0;
+    for _done in 0..ways.len() {
+        let more = round(ways, marked | found);
         if more == found {
             return found;
         }
         found = more;
-        left -= 1;
     }
     found
 }
 
 // The states from which one or more allowed events lead to a marked state, as bits. The table is gone through once.
-pub fn leads(p: property::Property, marked: u64, allowed: u64) -> u64
-    requires { in_range (meaning p) ≡ true }
-    ensures { Leading (meaning p) marked allowed result }
+pub fn leads(taken: &Taken, marked: u64, allowed: u64) -> u64
+    ensures { Leading (meaning taken.now.property) marked allowed result }
 {
-    let next = p.next;
-    let ways = all_ways(&next, p.events, p.states, allowed);
-    rounds(&ways, p.states, marked)
+    let ways = all_ways(taken, allowed);
+    rounds(&ways[..taken.property.states], marked)
 }
 
 // The hopeful states, as bits: those from which one or more events lead to a verdict asked for.
-pub fn hopeful(p: property::Property) -> u64
-    requires { in_range (meaning p) ≡ true }
-    ensures { Hopes (meaning p) result }
+pub fn hopeful(taken: &Taken) -> u64
+    ensures { Hopes (meaning taken.now.property) result }
 {
-    let marked = asked_states(p);
-    leads(p, marked, EVERY_EVENT)
+    leads(taken, asked_states(taken), EVERY_EVENT)
 }
 
 // The face --------------------------------------------------------------------------------------------------------------
 
 // What the check of a property table says: 11, or 0 and the hopeful states as bits.
+// Stays: a struct of C (`gorrindatz_check`), so a number stands for the refusal.
 #[repr(C)]
 #[derive(Clone, Copy)]
 pub struct Checked {
@@ -140,18 +129,17 @@ pub struct Checked {
 }
 
 // Whether a property table is taken, and which of its states are hopeful; none where it is refused 11.
-pub fn check(p: property::Property) -> Checked
+pub fn check(p: Property) -> Checked
     ensures { Checks (meaning p) result }
 {
-    if !property::in_range(p) {
-        return Checked {
-            refusal: refusals::BAD_PROPERTY,
+    match p.taken() {
+        Ok(taken) => Checked {
+            refusal: refusals::TAKEN,
+            hopeful: hopeful(&taken),
+        },
+        Err(refusal) => Checked {
+            refusal: refusal.number(),
             hopeful: 0,
-        };
-    }
-    let hopeful = hopeful(p);
-    Checked {
-        refusal: refusals::TAKEN,
-        hopeful,
+        },
     }
 }

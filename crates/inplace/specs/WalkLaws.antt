@@ -1,10 +1,9 @@
 -- The turns of the walk over the rows that may include the binding.
 -- Assumes nothing.
-use Rattle.std.specs.Prelude.{ℕ, zero, suc, ◌+◌, ◌-◌, ◌*◌, ◌<◌, ◌≤◌, ◌≡◌, refl, Bool, true, not, ◌&&◌, List, [], ◌∷◌, ◌++◌, length, get_or, set}
+use Rattle.std.specs.Prelude.{ℕ, zero, suc, ◌+◌, ◌-◌, ◌*◌, ◌<◌, ◌≤◌, ◌≡◌, refl, Bool, true, ◌&&◌, List, [], ◌∷◌, ◌++◌, length, get_or, set}
 use Rattle.std.proofs.Math.Path.{sym, ap}
 use Rattle.std.proofs.Common.{subst, ◌∙◌, arith, zero-add, length-set}
 use Rattle.std.proofs.Math.Bool.{false}
-use Rattle.std.proofs.lemmas.Bool.{not-false}
 use Rattle.document.specs.Lists.{In, cons_if}
 use Rattle.document.specs.Limits.{width, kept_stride, most_states}
 use Rattle.document.specs.Positions.{holds}
@@ -13,6 +12,7 @@ use Rattle.document.specs.OneEvent.{Kept}
 use Rattle.document.specs.Tables.{numbers_at}
 use Rattle.slices.specs.TablesLaws.{kept_at}
 use Rattle.ordered.specs.WritesLaws.{stays_put, state_put}
+use Rattle.slices.specs.TestsLaws.{so, not_so}
 use Rattle.tables.specs.Tables.{kept_from}
 use Rattle.tables.specs.TablesLaws.{kept_more, row_move}
 use Rattle.moves.specs.Steps.{step_of, state_in}
@@ -22,10 +22,6 @@ use Rattle.spans.specs.Spans.{Agree, Spans, LastBound, NextFound, Agrees, Movabl
 use Rattle.inplace.specs.InPlace.{moved_on, told, Walking, WalksTo, MovedInPlace}
 use Rattle.inplace.specs.ToldLaws.{told_append, told_none, sifted_none}
 use Rattle.spans.specs.AgreeLaws.{differs, agree_bound, rows_in_lem}
-
--- fewer rows lie within the table too
-pub rows_inside : (m end n : ℕ) → end ≤ m → m * kept_stride ≤ n → end * kept_stride ≤ n
-rows_inside m end n h g = omega arith
 
 -- One row --------------------------------------------------------------------------------------------------------------
 
@@ -58,7 +54,7 @@ module _ (next : List ℕ) (states hopes asks e m i : ℕ) (b t₀ t : List ℕ)
   pub walking_stays : includes (numbers_at width t (i * kept_stride)) b ≡ false → Walking next states hopes asks e m (i + 1) b t₀ t
   walking_stays z = record {
     sifts = sifting_turn next states hopes e m i i b t₀ t u.sifts t (i + 1) h refl
-        (settle_stays next states hopes e i i b t ready (numbers_at width t (i * kept_stride)) false refl (sym z) refl (get_or t (i * kept_stride + width) 0) t refl (stays_put i i t refl));
+        (settle_stays next states hopes e i i b t ready false (sym z) refl t (stays_put i i t refl));
     silent = rw (z, u.silent) at told_more;
   }
 
@@ -66,8 +62,10 @@ module _ (next : List ℕ) (states hopes asks e m i : ℕ) (b t₀ t : List ℕ)
       → holds asks to ≡ false → Walking next states hopes asks e m (i + 1) b t₀ (set t (i * kept_stride + width) to)
   walking_moves z to q g y = record {
     sifts = sifting_turn next states hopes e m i i b t₀ t u.sifts (set t (i * kept_stride + width) to) (i + 1) h (length-set t (i * kept_stride + width) to)
-        (settle_moves next states hopes e i i b t ready (numbers_at width t (i * kept_stride)) true refl (sym z) refl to true (set t (i * kept_stride + width) to) q (sym g) refl
-        (state_put (i * kept_stride) to t (let x = ready.inside in omega arith)));
+        (settle_moves next states hopes e i i b t ready true (sym z) refl to (set t (i * kept_stride + width) to) (i + 1) q (record {
+          goes = λ n. (refl, state_put (i * kept_stride) to t (let x = ready.inside in omega arith));
+          drops = λ n. absurd (not_so n (so g));
+        }));
     silent = rw (z, ← q, y, u.silent) at told_more;
   }
 
@@ -183,17 +181,15 @@ module _ (next : List ℕ) (states hopes asks e m : ℕ) (b : List ℕ) (low end
             walks = walking_on next states hopes asks e m b t₀ last number (i + 1) end r t' v u.spans.within u.bound u.is u.some f;
           }
 
-      module _ (a : Bool) (v : Agrees t (i * kept_stride) b last a) where
-        pub going_out : a ≡ false → (r : ℕ) → NextFound t (i + 1) end last number r → Going next states hopes asks e m r b low end last number t₀ t
-        going_out z r f = goes r t (walking_stays next states hopes asks e m i b t₀ t u.walks below (v.no z)) f
+      module _ (a : Bool) (v : Agrees t (i * kept_stride) b 1 last a) where
+        pub going_out : a ≡ false → (r : ℕ) (t' : List ℕ) → t' ≡ t → NextFound t' (i + 1) end last number r → Going next states hopes asks e m r b low end last number t₀ t'
+        going_out z r t' y f = goes r t' (rw y (walking_stays next states hopes asks e m i b t₀ t u.walks below (v.no z))) f
 
-        pub going_in : a ≡ true → (to r : ℕ) (x y : Bool) → to ≡ step_of next (get_or t (i * kept_stride + width) 0) e → x ≡ holds hopes to → not x ≡ false → y ≡ holds asks to → y ≡ false
-            → NextFound (set t (i * kept_stride + width) to) (i + 1) end last number r
-            → Going next states hopes asks e m r b low end last number t₀ (set t (i * kept_stride + width) to)
-        going_in z to r x y q p n k l f =
-            goes r (set t (i * kept_stride + width) to)
-            (walking_moves next states hopes asks e m i b t₀ t u.walks below
-            (agree_bound t (i * kept_stride) b last number u.wide u.bound u.is first (u.found h) a v z) to q (sym p ∙ not-false x n) (sym k ∙ l)) f
+        pub going_in : a ≡ true → (to r : ℕ) (x y : Bool) → to ≡ step_of next (get_or t (i * kept_stride + width) 0) e → x ≡ holds hopes to → x ≡ true → y ≡ holds asks to → y ≡ false
+            → (t' : List ℕ) → t' ≡ set t (i * kept_stride + width) to → NextFound t' (i + 1) end last number r → Going next states hopes asks e m r b low end last number t₀ t'
+        going_in z to r x y q p n k l t' g f =
+            goes r t' (rw g (walking_moves next states hopes asks e m i b t₀ t u.walks below
+            (agree_bound t (i * kept_stride) b last number u.wide u.bound u.is first (u.found h) a v z) to q (sym p ∙ n) (sym k ∙ l))) f
 
 -- All of it
 pub moved_in_place : (next : List ℕ) (states hopes asks e m : ℕ) (b : List ℕ) (low end r : ℕ) (t t' : List ℕ) → Spans m b t low end

@@ -8,7 +8,7 @@
 ghost use Rattle.spans.specs.Spans.{Movable, Spans};
 ghost use Rattle.inplace.specs.InPlace.{WalksTo, MovedInPlace};
 
-use limits::{Combination, KEPT_STRIDE, Transitions, WIDTH};
+use limits::{Combination, KEPT_STRIDE, WIDTH};
 use moves::Known;
 
 // The row before which the moves stopped, and the row from which on none includes the binding. Where they are the same, all is
@@ -22,8 +22,7 @@ pub struct InPlace {
 // Moves the rows between two rows that include the binding, up to one that is dropped or reported. Answers the row that it
 // stopped before.
 fn walk(
-    next: &Transitions,
-    known: Known,
+    known: &Known,
     kept: &mut [u32],
     m: usize,
     e: usize,
@@ -31,49 +30,38 @@ fn walk(
     low: usize,
     end: usize,
 ) -> usize
-    requires { Movable next.now known.states e m b kept.old × Spans m b kept.old low end }
-    ensures { WalksTo next.now known.states known.hopeful known.asked e m b low end kept.old kept.new result }
+    requires { Movable known.now.next known.now.states e m b kept.old × Spans m b kept.old low end }
+    ensures { WalksTo known.now.next known.now.states known.now.hopeful known.now.asked e m b low end kept.old kept.new result }
 {
     let last = spans::last_bound(b);
     let number = b[last];
     if number == 0 {
         return low;
     }
+    // Stays: it goes from each row found to the next, by a search; a range would visit every row and test the number by hand.
     let mut i = spans::next_with(kept, low, end, last, number);
     while i < end {
         let at = i * KEPT_STRIDE;
-        if spans::agrees(kept, at, b, last) {
-            let to = moves::next_state(next, kept[at + WIDTH], e);
-            if !moves::is_among(known.hopeful, to) {
-                return i;
-            }
-            if moves::is_among(known.asked, to) {
+        if spans::agrees(kept, at, b, 1, last) {
+            let to = known.next_state(kept[at + WIDTH], e);
+            if !known.is_hopeful(to) || known.is_asked(to) {
                 return i;
             }
             kept[at + WIDTH] = to;
-            i = spans::next_with(kept, i + 1, end, last, number);
-        } else {
-            i = spans::next_with(kept, i + 1, end, last, number);
         }
+        i = spans::next_with(kept, i + 1, end, last, number);
     }
     i
 }
 
 // Moves the first rows that include the binding, up to one that is dropped or reported.
-pub fn move_in_place(
-    next: &Transitions,
-    known: Known,
-    kept: &mut [u32],
-    m: usize,
-    e: usize,
-    b: Combination,
-) -> InPlace
-    requires { Movable next.now known.states e m b kept.old }
-    ensures { MovedInPlace next.now known.states known.hopeful known.asked e m b kept.old kept.new result }
+pub fn move_in_place(known: &Known, kept: &mut [u32], m: usize, e: usize, b: Combination) -> InPlace
+    requires { Movable known.now.next known.now.states e m b kept.old }
+    ensures { MovedInPlace known.now.next known.now.states known.now.hopeful known.now.asked e m b kept.old kept.new result }
 {
     let first = b[0];
-    let low = spans::first_place(kept, m, moves::wide(first));
+    let low = spans::first_place(kept, m, first as usize);
     let end = spans::end_place(kept, m, first);
-    let row = walk(next, known, kept, m, e, b, low, end);
+    let row = walk(known, kept, m, e, b, low, end);
     InPlace { row, end }
 }

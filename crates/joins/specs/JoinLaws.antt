@@ -1,7 +1,8 @@
 -- The join of the seen rows that a combination includes, found by looking its restrictions up: at most one search for each set
 -- of parameters, largest set first, and none for a restriction that the join so far includes.
 -- Assumes nothing.
-use Rattle.std.specs.Prelude.{ℕ, ◌+◌, ◌-◌, ◌*◌, ◌^◌, ◌<◌, ◌≤◌, ◌≡◌, refl, ◌⊎◌, Bool, not, cond, ◌&&◌, length}
+use Rattle.std.specs.Prelude.{ℕ, ◌+◌, ◌-◌, ◌*◌, ◌^◌, ◌<◌, ◌≤◌, ◌≡◌, refl, ◌⊎◌, Bool, not, cond, ◌&&◌, length, Option, Some, None}
+use Rattle.std.specs.Option.{is_some}
 use Rattle.std.proofs.Math.Path.{sym, ap}
 use Rattle.std.proofs.Common.{subst, ◌∙◌, arith}
 use Rattle.std.proofs.Math.Logic.{inl, inr}
@@ -53,6 +54,37 @@ module _ (set : ℕ) (c acc part : List ℕ) (seen : List (List ℕ)) (e : part 
     pub gather_joins : g ≡ false → (h : Bool) → h ≡ among part seen → not h ≡ false → (r : List ℕ) → r ≡ join acc part → r ≡ gathered set c seen acc
     unfolding gathered
     gather_joins zg h qh zh r q = rw (← e, sym qf ∙ not-false f zf, sym qg ∙ zg, sym qh ∙ not-false h zh) q
+
+-- the restriction to a set, if it binds the set, k does not include it, and it is seen
+unfoldable pub missing : ℕ → List ℕ → List ℕ → List (List ℕ) → Option (List ℕ)
+missing set c k seen =
+    cond ((binds_exactly set (restricted set c) && not (includes k (restricted set c))) && among (restricted set c) seen)
+    (Some (restricted set c)) None
+
+in_some : (a b d : Bool) (r acc part : List ℕ) → cond ((a && b) && d) (Some r) None ≡ Some part → join acc part ≡ cond (a && (b && d)) (join acc r) acc
+in_some true true true r acc part e = let q : r ≡ part = cc in ap (join acc) (sym q)
+in_some true true false r acc part e = absurd (cc)
+in_some true false d r acc part e = absurd (cc)
+in_some false b d r acc part e = absurd (cc)
+
+in_none : (a b d : Bool) (r acc : List ℕ) → cond ((a && b) && d) (Some r) None ≡ None → acc ≡ cond (a && (b && d)) (join acc r) acc
+in_none true true true r acc e = absurd (cc)
+in_none true true false r acc e = refl
+in_none true false d r acc e = refl
+in_none false b d r acc e = refl
+
+module _ (set : ℕ) (c acc : List ℕ) (seen : List (List ℕ)) (o : Option (List ℕ)) (e : o ≡ missing set c acc seen) where
+  pub missing_joins : (part : List ℕ) → o ≡ Some part → join acc part ≡ gathered set c seen acc
+  unfolding missing gathered
+  missing_joins part q =
+      in_some (binds_exactly set (restricted set c)) (not (includes acc (restricted set c))) (among (restricted set c) seen) (restricted set c)
+      acc part (sym e ∙ q)
+
+  pub missing_none : o ≡ None → acc ≡ gathered set c seen acc
+  unfolding missing gathered
+  missing_none q =
+      in_none (binds_exactly set (restricted set c)) (not (includes acc (restricted set c))) (among (restricted set c) seen) (restricted set c)
+      acc (sym e ∙ q)
 
 -- The join -------------------------------------------------------------------------------------------------------------
 
@@ -185,6 +217,17 @@ module _ (set : ℕ) (c k part : List ℕ) (seen : List (List ℕ)) (e : part �
     unfolding covers_at
     covers_unseen zg h qh = rw (← e, sym qf ∙ not-false f zf, sym qg ∙ zg, qh)
 
+some_not : (a b d : Bool) (r : List ℕ) → not (is_some (cond ((a && not b) && d) (Some r) None)) ≡ cond a (cond b true (not d)) true
+some_not true true d r = refl
+some_not true false true r = refl
+some_not true false false r = refl
+some_not false b d r = refl
+
+-- a set is covered where nothing of it is missing
+pub covers_missing : (set : ℕ) (c k : List ℕ) (seen : List (List ℕ)) (o : Option (List ℕ)) → o ≡ missing set c k seen → not (is_some o) ≡ covers_at set c k seen
+unfolding missing covers_at
+covers_missing set c k seen o e = ap (λ x. not (is_some x)) e ∙ some_not _ _ _ _
+
 module _ (n : ℕ) (t c k : List ℕ) (set : ℕ) (f : Bool) where
   abbrev part : List ℕ
   part = restricted (set - 1) c
@@ -236,3 +279,10 @@ covered_ends n t c k set u h =
     let low : T (includes j (join_seen width k (seen_rows n t))) = join_seen_least width k j (seen_rows n t) jw (λ x i g.
     join_seen-includes width c (seen_rows n t) u.joins.wide x i (includes_trans c k x (so u.joins.more) g)) in
     sym (true_of (equal j k) (of_equal j k (includes_antisym j k (rw u.joins.itself at low) up)))
+
+module _ (n : ℕ) (t c k : List ℕ) (set : ℕ) (o : Option (List ℕ)) (f : Bool) (u : Covered n t c k set) (e : o ≡ missing (set - 1) c k (seen_rows n t)) (q : f ≡ is_some o) where
+  pub covered_missing : f ≡ true → false ≡ equal (join_seen width c (seen_rows n t)) k
+  covered_missing z = covered_stops n t c k set (not f) u (ap not q ∙ covers_missing (set - 1) c k (seen_rows n t) o e) (ap (λ x. not (not x)) z)
+
+  pub covered_more : 0 < set → f ≡ false → Covered n t c k (set - 1)
+  covered_more h z = covered_turn n t c k set (not f) u h (ap not q ∙ covers_missing (set - 1) c k (seen_rows n t) o e) (ap (λ x. not (not x)) z)

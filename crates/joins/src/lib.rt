@@ -8,72 +8,50 @@ ghost use Rattle.document.specs.Lists.{equal};
 ghost use Rattle.document.specs.Limits.{width};
 ghost use Rattle.document.specs.OneEvent.{join_seen};
 ghost use Rattle.document.specs.Tables.{seen_rows};
-ghost use Rattle.ordered.specs.Rows.{SeenInOrder};
-ghost use Rattle.joins.specs.JoinLaws.{gathered, covers_at, Joins};
+ghost use Rattle.joins.specs.JoinLaws.{missing, Joins};
 
 use limits::{Combination, WIDTH};
+use ordered::Seen;
 
 // Sets of parameters, as bits.
 const SETS: u64 = 1 << WIDTH;
 
-// The join so far, with the restriction of c to one set of parameters more if that is seen.
-fn gather(acc: Combination, set: u64, c: Combination, seen: &[u32], n: usize) -> Combination
-    requires { SeenInOrder n seen.now }
-    ensures { result ≡ gathered set c (seen_rows n seen.now) acc }
+// The restriction of c to a set of parameters, where it binds them all, it is seen, and k does not include it.
+#[tactic(auto, unfolding(crate::specs::JoinLaws::missing))]
+fn missing(k: Combination, set: u64, c: Combination, seen: Seen) -> Option<Combination>
+    ensures { result ≡ missing set c k (seen_rows seen.entry.count seen.entry.numbers.now) }
 {
     let part = bound::restricted(set, c);
-    if !bound::binds_exactly(set, part) {
-        return acc;
+    if bound::binds_exactly(set, part) && !combos::includes(k, part) && seen.holds(part) {
+        Some(part)
+    } else {
+        None
     }
-    if combos::includes(acc, part) {
-        return acc;
-    }
-    if !ordered::seen_holds(seen, n, part) {
-        return acc;
-    }
-    combos::join(acc, part)
 }
 
 // The join of the seen rows that c includes.
-pub fn join_seen(c: Combination, seen: &[u32], n: usize) -> Combination
-    requires { SeenInOrder n seen.now }
-    ensures { result ≡ join_seen width c (seen_rows n seen.now) }
+pub fn join_seen(c: Combination, seen: Seen) -> Combination
+    ensures { result ≡ join_seen width c (seen_rows seen.entry.count seen.entry.numbers.now) }
 {
-    let mut acc = [0u32; WIDTH];
-    let mut set = SETS;
-    while 0 < set {
-        set -= 1;
-        let next = gather(acc, set, c, seen, n);
-        acc = next;
+    let mut acc = [0; WIDTH];
+    for set in (0..SETS).rev() {
+        if let Some(part) = missing(acc, set, c, seen) {
+            // Stays: no call's array is laid straight in a variable that the loop lends, as the checker has it.
+            let joined = combos::join(acc, part);
+            acc = joined;
+        }
     }
     acc
 }
 
-// Whether k includes the restriction of c to one set of parameters, if that is seen.
-fn covers(k: Combination, set: u64, c: Combination, seen: &[u32], n: usize) -> bool
-    requires { SeenInOrder n seen.now }
-    ensures { result ≡ covers_at set c k (seen_rows n seen.now) }
-{
-    let part = bound::restricted(set, c);
-    if !bound::binds_exactly(set, part) {
-        return true;
-    }
-    if combos::includes(k, part) {
-        return true;
-    }
-    !ordered::seen_holds(seen, n, part)
-}
-
 // Whether the join of the seen rows that c includes is k, where k is such a join and c includes it: one seen row that c
 // includes and k does not refutes it.
-pub fn joins_to(c: Combination, k: Combination, seen: &[u32], n: usize) -> bool
-    requires { SeenInOrder n seen.now × Joins n seen.now c k }
-    ensures { result ≡ equal (join_seen width c (seen_rows n seen.now)) k }
+pub fn joins_to(c: Combination, k: Combination, seen: Seen) -> bool
+    requires { Joins seen.count seen.numbers.now c k }
+    ensures { result ≡ equal (join_seen width c (seen_rows seen.entry.count seen.entry.numbers.now)) k }
 {
-    let mut set = SETS;
-    while 0 < set {
-        set -= 1;
-        if !covers(k, set, c, seen, n) {
+    for set in (0..SETS).rev() {
+        if missing(k, set, c, seen).is_some() {
             return false;
         }
     }

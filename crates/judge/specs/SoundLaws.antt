@@ -1,8 +1,9 @@
 -- The clauses of the session check: each alone, the check in the parts in which the code judges it, and the returns of those.
 -- Assumes nothing.
-use Rattle.std.specs.Prelude.{ℕ, ◌+◌, ◌*◌, ◌<◌, ◌≤◌, ◌≡◌, Bool, true, false, not, ◌&&◌, List, leb, length, get_or}
+use Rattle.std.specs.Prelude.{ℕ, ◌+◌, ◌*◌, ◌<◌, ◌≤◌, ◌≡◌, refl, Bool, true, false, not, ◌&&◌, List, leb, length, get_or}
 use Rattle.std.proofs.Math.Path.{sym}
-use Rattle.std.proofs.Common.{◌∙◌, arith}
+use Rattle.std.proofs.Math.Bool.{and-false, and-true}
+use Rattle.std.proofs.Common.{◌∙◌, ap, arith}
 use borrow.Author.Tests.{le-leb, lt-leb, leb-true, lt-ltb, le-ltb, not-true, not-false}
 use Rattle.document.specs.Lists.{every, equal}
 use Rattle.document.specs.Limits.{width, seen_stride, kept_stride}
@@ -17,6 +18,8 @@ use Rattle.slices.specs.ListsLaws.{map_tabulate}
 use Rattle.slices.specs.TablesLaws.{kept_at}
 use Rattle.ordered.specs.Rows.{SeenInOrder}
 use Rattle.judge.specs.Sound.{rightly_kept_by, sound_by, session_of}
+use Rattle.std.specs.List.{list_all, range_with_len}
+use Rattle.clauses.specs.LibraryLaws.{all_tabulate}
 use Rattle.clauses.specs.Rows.{rows_of, Rows}
 use Rattle.clauses.specs.RowsLaws.{not_empty, Passed, passed_stops, passed_turn, passed_ends}
 
@@ -60,6 +63,10 @@ pub kept_ends : (p : Kept → Bool) (m i : ℕ) (t : List ℕ) → Passed p m (k
 unfolding kept_rows
 kept_ends p m i t u h = passed_ends p m (kept_of_row t) i u h
 
+pub all_kept_rows : (p : Kept → Bool) (m : ℕ) (t : List ℕ) → list_all (λ i. p (kept_of_row t i)) (range_with_len 0 m) ≡ every p (kept_rows m t)
+unfolding kept_rows
+all_kept_rows p m t = all_tabulate p m (kept_of_row t)
+
 -- The check in parts ---------------------------------------------------------------------------------------------------
 
 -- the seen table alone, the kept table alone
@@ -72,6 +79,43 @@ unfoldable pub kept_stands : ℕ → ℕ → List ℕ → Bool
 kept_stands parameters m t =
     leb m (kept_room t) && (ascending (rows_of kept_stride m t)
     && (every (zero_past parameters) (rows_of kept_stride m t) && zero_between (m * kept_stride) (kept_room t * kept_stride) t))
+
+-- what both tables are asked: n rows of so many numbers each in a room
+unfoldable pub rows_stand : ℕ → ℕ → ℕ → ℕ → List ℕ → Bool
+rows_stand stride room parameters n t =
+    ((leb n room && ascending (rows_of stride n t))
+    && every (zero_past parameters) (rows_of stride n t)) && zero_between (n * stride) (room * stride) t
+
+-- a test that was made after one that holds, or left out after one that does not
+pub and_after : (v a b : Bool) → v ≡ a → v ≡ true → b ≡ (a && b)
+and_after v a b e h = rw (sym e ∙ h)
+
+pub and_left : (v a b : Bool) → v ≡ a → v ≡ false → v ≡ (a && b)
+and_left v a b e h = rw (sym e ∙ h) h
+
+and_in : (a b d e : Bool) → (((a && b) && d) && e) ≡ (a && (b && (d && e)))
+and_in false b d e = refl
+and_in true false d e = refl
+and_in true true d e = refl
+
+and_third : (a b c d e : Bool) → ((((a && b) && d) && e) && c) ≡ (a && (b && (c && (d && e))))
+and_third false b c d e = refl
+and_third true false c d e = refl
+and_third true true false d e = and-false (d && e)
+and_third true true true d e = and-true (d && e)
+
+pub kept_in_rows : (parameters m : ℕ) (t : List ℕ) → rows_stand kept_stride (kept_room t) parameters m t ≡ kept_stands parameters m t
+unfolding rows_stand kept_stands
+kept_in_rows parameters m t =
+    and_in (leb m (kept_room t)) (ascending (rows_of kept_stride m t)) (every (zero_past parameters) (rows_of kept_stride m t))
+    (zero_between (m * kept_stride) (kept_room t * kept_stride) t)
+
+pub seen_in_rows : (parameters n : ℕ) (t : List ℕ)
+    → (rows_stand seen_stride (seen_room t) parameters n t && every not_empty (rows_of seen_stride n t)) ≡ seen_stands parameters n t
+unfolding rows_stand seen_stands
+seen_in_rows parameters n t =
+    and_third (leb n (seen_room t)) (ascending (rows_of seen_stride n t)) (every not_empty (rows_of seen_stride n t))
+    (every (zero_past parameters) (rows_of seen_stride n t)) (zero_between (n * seen_stride) (seen_room t * seen_stride) t)
 
 module _ (parameters n room : ℕ) (t : List ℕ) (e : room ≡ seen_room t) where
   pub seen_over : room < n → false ≡ seen_stands parameters n t
@@ -223,6 +267,29 @@ sound-parts parameters states hope n m seen kept =
   where
     s : Session
     s = session_of n m seen kept
+
+pub rows_stand_kept : (parameters m room : ℕ) (t : List ℕ) (f : Bool) → room ≡ kept_room t → f ≡ rows_stand kept_stride room parameters m t → f ≡ kept_stands parameters m t
+rows_stand_kept parameters m room t f e q = q ∙ ap (λ r. rows_stand kept_stride r parameters m t) e ∙ kept_in_rows parameters m t
+
+module _ (parameters n room : ℕ) (t : List ℕ) (f : Bool) (e : room ≡ seen_room t) (q : f ≡ rows_stand seen_stride room parameters n t) where
+  rows_stand_seen : f ≡ rows_stand seen_stride (seen_room t) parameters n t
+  rows_stand_seen = q ∙ ap (λ r. rows_stand seen_stride r parameters n t) e
+
+  pub seen_inside : f ≡ true → n * seen_stride ≤ length t
+  unfolding rows_stand
+  seen_inside h =
+      let a = both _ _ (sym q ∙ h) in
+      let b = both _ _ a.0 in
+      let d = both _ _ b.0 in
+      let l = leb-true n room d.0 in
+      let i = seen_room-holds t in
+      omega arith
+
+  pub seen_after : f ≡ true → (g : Bool) → g ≡ every not_empty (rows_of seen_stride n t) → g ≡ seen_stands parameters n t
+  seen_after h g z = z ∙ and_after f _ _ rows_stand_seen h ∙ seen_in_rows parameters n t
+
+  pub seen_left : f ≡ false → f ≡ seen_stands parameters n t
+  seen_left h = and_left f _ _ rows_stand_seen h ∙ seen_in_rows parameters n t
 
 -- What the parts need, and the returns of the check --------------------------------------------------------------------
 

@@ -2,12 +2,11 @@
 -- Assumes nothing.
 use Prim.Native.Nat.{ℕ, suc, ◌+◌, ◌-◌, ◌*◌, ◌<◌}
 use Rattle.std.proofs.Math.Path.{◌≡◌, sym, ap}
-use Rattle.std.specs.Prelude.{refl, Bool, false, not, get_or}
+use Rattle.std.specs.Prelude.{refl, Bool, false, get_or}
 use Rattle.std.proofs.Common.{ap₂, ◌∙◌}
 use Rattle.std.proofs.Math.Bool.{true}
 use mathlib.Core.List.{List, ◌∷◌}
 use native.Mathlib.Omega.{arith}
-use borrow.Author.Tests.{not-true, not-false}
 use Rattle.document.specs.Limits.{width, kept_stride, most_states}
 use Rattle.document.specs.Positions.{holds}
 use Rattle.document.specs.Combinations.{includes, join}
@@ -65,27 +64,27 @@ module _ (next : List ℕ) (states hopes e n i m : ℕ) (b seen t : List ℕ) (f
     made : creates (step_of next) e b S row ≡ g
     made = of_creates (step_of next) e b S u.binds.wide row (in_place_lem ∙ z) ∙ moves_at_lem (step_of next) e b S row ∙ ap (moves_at b S) (sym qk) ∙ sym qg
 
-    pub grow_not : not g ≡ true → GrownRow next hopes e n i m b seen t t m
+    pub grow_not : g ≡ false → GrownRow next hopes e n i m b seen t t m
     unfolding grows
-    grow_not y = none (rw (made ∙ not-true g y))
+    grow_not y = none (rw (made ∙ y))
 
-    module _ (y : not g ≡ false) (to : ℕ) (h : Bool) (qt : to ≡ step_of next (get_or t (i * kept_stride + width) 0) e) (qh : h ≡ holds hopes to) where
+    module _ (y : g ≡ true) (to : ℕ) (h : Bool) (qt : to ≡ step_of next (get_or t (i * kept_stride + width) 0) e) (qh : h ≡ holds hopes to) where
       hope : state_in hopes (moved_from width (step_of next) e b S row) ≡ h
       unfolding state_in moved_from
       hope = ap (holds hopes) (sym qt) ∙ sym qh
 
-      pub grow_hopeless : not h ≡ true → GrownRow next hopes e n i m b seen t t m
+      pub grow_hopeless : h ≡ false → GrownRow next hopes e n i m b seen t t m
       unfolding grows
-      grow_hopeless x = none (rw (made ∙ not-false g y, hope ∙ not-true h x))
+      grow_hopeless x = none (rw (made ∙ y, hope ∙ x))
 
-      will : not h ≡ false → grows (step_of next) e b S (state_in hopes) row ≡ true
+      will : h ≡ true → grows (step_of next) e b S (state_in hopes) row ≡ true
       unfolding grows
-      will x = rw (made ∙ not-false g y, hope ∙ not-false h x)
+      will x = rw (made ∙ y, hope ∙ x)
 
-      pub grow_enterable : not h ≡ false → Enterable (i * kept_stride + kept_stride) (m - i - 1) t
+      pub grow_enterable : h ≡ true → Enterable (i * kept_stride + kept_stride) (m - i - 1) t
       grow_enterable x = record { inside = let r = u.room (will x) in let l = u.below in omega arith; order = u.order }
 
-      pub grow_created : not h ≡ false → (c t' : List ℕ) → c ≡ join b k → Entered (i * kept_stride + kept_stride) (m - i - 1) c to t t' → GrownRow next hopes e n i m b seen t t' (m + 1)
+      pub grow_created : h ≡ true → (c t' : List ℕ) → c ≡ join b k → Entered (i * kept_stride + kept_stride) (m - i - 1) c to t t' → GrownRow next hopes e n i m b seen t t' (m + 1)
       unfolding grown_by kept_from moved_from
       grow_created x c t' qc v =
           let l = u.below in

@@ -1,11 +1,10 @@
 -- What the written tables come to: the kept rows and the seen rows of the outcome, 0 up to the rooms, and what lies past them
 -- as it was.
 -- Assumes nothing.
-use Rattle.std.specs.Prelude.{ℕ, suc, ◌+◌, ◌*◌, ◌<◌, ◌≤◌, ◌≡◌, refl, Bool, true, false, not, List, length, get_or}
+use Rattle.std.specs.Prelude.{ℕ, suc, ◌+◌, ◌*◌, ◌<◌, ◌≤◌, ◌≡◌, refl, Bool, true, false, List, length, get_or}
 use Rattle.std.proofs.Common.{sym, ap, subst, ◌∙◌, arith}
 use Rattle.std.proofs.Math.Logic.{inl, inr}
 use Rattle.std.proofs.Math.Decide.{dec_lt}
-use Rattle.std.proofs.lemmas.Bool.{not-true, not-false}
 use Rattle.document.specs.Lists.{In}
 use Rattle.document.specs.Limits.{width, seen_stride, kept_stride}
 use Rattle.document.specs.OneEvent.{Kept, insert_seen, see, moved_from, kept_after}
@@ -78,14 +77,14 @@ module _ (next : List ℕ) (states hopes e n m : ℕ) (b seen kept : List ℕ) (
           omega arith;
     }
 
-    pub kept_written_old : (t' : List ℕ) → not fresh ≡ true → length t' ≡ length t → ZeroIn (o * kept_stride) (m * kept_stride) t t' → t' ≡ kept_table after kept
+    pub kept_written_old : (t' : List ℕ) → fresh ≡ false → length t' ≡ length t → ZeroIn (o * kept_stride) (m * kept_stride) t t' → t' ≡ kept_table after kept
     kept_written_old t' z l c =
         let f = s.fewer in
         let i = kept_room-holds kept in
         let w = u.steady.kept_fits in
         kept_table_lem o kept t' after (omega arith) (l ∙ same)
         (kept_front o t t' (λ k h. c.low k h)
-        ∙ sym (after_is ∙ grown-old (step_of next) e b S u.wide (state_in hopes) (kept_from o t 0) sifted_rows_right (sym u.new ∙ not-true fresh z)))
+        ∙ sym (after_is ∙ grown-old (step_of next) e b S u.wide (state_in hopes) (kept_from o t 0) sifted_rows_right (sym u.new ∙ z)))
         (λ k g h. elim (dec_lt k (m * kept_stride)) [
           | yes y ↦ c.zero k g y
           | no y ↦ c.high k (omega arith) ∙ s.rest k (omega arith) ∙ u.steady.kept_zero k (omega arith) h
@@ -115,27 +114,27 @@ module _ (next : List ℕ) (states hopes e n m : ℕ) (b seen kept : List ℕ) (
 -- The seen rows --------------------------------------------------------------------------------------------------------
 
 module _ (n : ℕ) (b seen : List ℕ) (fresh : Bool) (u : Seeable n b seen fresh) where
-  pub seen_written_old : not fresh ≡ true → seen ≡ seen_table (see width b (seen_rows n seen)) seen
+  pub seen_written_old : fresh ≡ false → seen ≡ seen_table (see width b (seen_rows n seen)) seen
   seen_written_old z =
       seen_table_lem n seen seen (see width b (seen_rows n seen)) u.fits refl
-      (seen_rows_lem n seen ∙ sym (see-old b (seen_rows n seen) (sym u.new ∙ not-true fresh z))) u.zero (λ k h. refl)
+      (seen_rows_lem n seen ∙ sym (see-old b (seen_rows n seen) (sym u.new ∙ z))) u.zero (λ k h. refl)
 
-  seen_more : not fresh ≡ false → n + 1 ≤ seen_room seen
+  seen_more : fresh ≡ true → n + 1 ≤ seen_room seen
   seen_more z =
-      let q = see_new b (seen_rows n seen) (sym u.new ∙ not-false fresh z) in
+      let q = see_new b (seen_rows n seen) (sym u.new ∙ z) in
       let a : length (see width b (seen_rows n seen)) ≡ suc (length (seen_rows n seen)) = ap length q ∙ length-insert_seen b (seen_rows n seen) in
       let c : length (seen_rows n seen) ≡ n = ap length (sym (seen_rows_lem n seen)) ∙ length-seen_from n seen 0 in
       let r = u.room in
       omega arith
 
-  pub seen_insertable : not fresh ≡ false → n * seen_stride + seen_stride ≤ length seen
+  pub seen_insertable : fresh ≡ true → n * seen_stride + seen_stride ≤ length seen
   seen_insertable z = let m = seen_more z in let i = seen_room-holds seen in omega arith
 
-  pub seen_written_new : (at : ℕ) (t' : List ℕ) → not fresh ≡ false → length t' ≡ length seen → Parted 0 seen_stride n seen b at
+  pub seen_written_new : (at : ℕ) (t' : List ℕ) → fresh ≡ true → length t' ≡ length seen → Parted 0 seen_stride n seen b at
       → SeenInserted (at * seen_stride) (n * seen_stride) b seen t' → t' ≡ seen_table (see width b (seen_rows n seen)) seen
   seen_written_new at t' z l p i =
       let m = seen_more z in
       seen_table_lem (n + 1) seen t' (see width b (seen_rows n seen)) m l
-      (seen_entered n at b seen t' u.wide p i ∙ ap (insert_seen b) (seen_rows_lem n seen) ∙ sym (see_new b (seen_rows n seen) (sym u.new ∙ not-false fresh z)))
+      (seen_entered n at b seen t' u.wide p i ∙ ap (insert_seen b) (seen_rows_lem n seen) ∙ sym (see_new b (seen_rows n seen) (sym u.new ∙ z)))
       (λ k g h. i.high k (omega arith) ∙ u.zero k (omega arith) h)
       (λ k g. i.high k (omega arith))

@@ -21,6 +21,7 @@ use Rattle.tables.specs.Tables.{kept_from}
 use Rattle.tables.specs.TablesLaws.{row_move, row_is, kept_move, kept_more, row_in}
 use Rattle.moves.specs.Steps.{step_of, state_in}
 use Rattle.moves.specs.MovesLaws.{in_place_join}
+use Rattle.settling.specs.Settling.{MovedRow}
 use Rattle.keeping.specs.Keeping.{settled, settles, sifted, SettleReady, SettledRow, Siftable, Sifted}
 
 -- One row --------------------------------------------------------------------------------------------------------------
@@ -33,16 +34,9 @@ written_after o i c s t t' h w p =
     ∙ ap₂ (λ (l : List Kept) (k : Kept). l ++ (k ∷ [])) (kept_move o t t' 0 0 (λ k g. p.low (0 + k) (omega arith)))
     (ap (kept_at width t') (zero-add (o * kept_stride)) ∙ row_is c s t' (o * kept_stride) w p.row p.last)
 
-module _ (next : List ℕ) (states hopes e i o : ℕ) (b t : List ℕ) (u : SettleReady next states e i o b t) (k : List ℕ) (f : Bool)
-    (qk : k ≡ numbers_at width t (i * kept_stride)) (qf : f ≡ includes k b) where
+module _ (next : List ℕ) (states hopes e i o : ℕ) (b t : List ℕ) (u : SettleReady next states e i o b t) where
   abbrev row : Kept
   row = kept_at width t (i * kept_stride)
-
-  in_place_lem : includes (numbers_at width t (i * kept_stride)) b ≡ f
-  in_place_lem = ap (λ (x : List ℕ). includes x b) (sym qk) ∙ sym qf
-
-  k_wide : length k ≡ width
-  k_wide = ap length qk ∙ length-numbers_at width t (i * kept_stride)
 
   pub settle_onward : (to : ℕ) → to ≡ step_of next (get_or t (i * kept_stride + width) 0) e → to < most_states
   settle_onward to q =
@@ -50,36 +44,40 @@ module _ (next : List ℕ) (states hopes e i o : ℕ) (b t : List ℕ) (u : Sett
       let l = u.moves.few in
       rw q (omega arith)
 
-  pub settle_stays : not f ≡ true → (s : ℕ) (t' : List ℕ) → s ≡ get_or t (i * kept_stride + width) 0 → Put (o * kept_stride) k s t t' → SettledRow next hopes e i o b t t' (o + 1)
-  unfolding settles settled
-  settle_stays z s t' q p = record {
-    rows = λ seen. written_after o i k s t t' u.before k_wide p
-        ∙ rw (in_place_lem ∙ not-true f z) (ap (λ (x : Kept). kept_from o t 0 ++ (x ∷ [])) (λ j. record { combination = qk j; state = q j }));
-    rest = λ x g. p.high x (let h = u.before in omega arith);
-    fewer = let h = u.before in omega arith;
-  }
+  module _ (f : Bool) (qf : f ≡ includes (numbers_at width t (i * kept_stride)) b) where
+    pub settle_stays : not f ≡ true → (t' : List ℕ) → Put (o * kept_stride) (numbers_at width t (i * kept_stride)) (get_or t (i * kept_stride + width) 0) t t'
+        → SettledRow next hopes e i o b t t' (o + 1)
+    unfolding settles settled
+    settle_stays z t' p = record {
+      rows = λ seen. written_after o i row.combination row.state t t' u.before (length-numbers_at width t (i * kept_stride)) p ∙ rw (sym qf ∙ not-true f z);
+      rest = λ x g. p.high x (let h = u.before in omega arith);
+      fewer = let h = u.before in omega arith;
+    }
 
-  pub settle_drops : not f ≡ false → (to : ℕ) (g : Bool) → to ≡ step_of next (get_or t (i * kept_stride + width) 0) e → g ≡ holds hopes to → not g ≡ true
-      → SettledRow next hopes e i o b t t o
-  unfolding settles state_in moved_from
-  settle_drops z to g q r y = record {
-    rows = λ seen. sym (rw (in_place_lem ∙ not-false f z, ← q, sym r ∙ not-true g y, list.append-nil));
-    rest = λ x l. refl;
-    fewer = let h = u.before in omega arith;
-  }
-
-  pub settle_moves : not f ≡ false → (to : ℕ) (g : Bool) (t' : List ℕ) → to ≡ step_of next (get_or t (i * kept_stride + width) 0) e → g ≡ holds hopes to → not g ≡ false
-      → Put (o * kept_stride) k to t t' → SettledRow next hopes e i o b t t' (o + 1)
-  unfolding settles settled state_in moved_from
-  settle_moves z to g t' q r y p =
-      let j : join b (numbers_at width t (i * kept_stride)) ≡ numbers_at width t (i * kept_stride) =
-      in_place_join (step_of next) e b [] u.wide row (in_place_lem ∙ not-false f z) in
-      record {
-        rows = λ seen. written_after o i k to t t' u.before k_wide p
-            ∙ rw (in_place_lem ∙ not-false f z, j, ← q, sym r ∙ not-false g y) (ap (λ (x : Kept). kept_from o t 0 ++ (x ∷ [])) (λ h. record { combination = qk h; state = to }));
-        rest = λ x l. p.high x (let h = u.before in omega arith);
-        fewer = let h = u.before in omega arith;
-      }
+    pub settle_moves : not f ≡ false → (to : ℕ) (t' : List ℕ) (r : ℕ) → to ≡ step_of next (get_or t (i * kept_stride + width) 0) e → MovedRow hopes to i o t t' r
+        → SettledRow next hopes e i o b t t' r
+    unfolding settles settled state_in moved_from
+    settle_moves z to t' r q v =
+        let j : join b row.combination ≡ row.combination = in_place_join (step_of next) e b [] u.wide row (sym qf ∙ not-false f z) in
+        elim (decided (holds hopes to)) [
+          | inl g ↦
+              let w = v.goes g in
+              let x = w.0 in
+              record {
+                rows = λ seen. rw (x, sym qf ∙ not-false f z, j, ← q, g) (written_after o i row.combination to t t' u.before (length-numbers_at width t (i * kept_stride)) w.1);
+                rest = λ x l. w.1.high x (let h = u.before in omega arith);
+                fewer = let h = u.before in omega arith;
+              }
+          | inr g ↦
+              let w = v.drops g in
+              let x = w.0 in
+              let y = w.1 in
+              record {
+                rows = λ seen. rw (x, y, sym qf ∙ not-false f z, ← q, g, list.append-nil) refl;
+                rest = λ k l. ap (λ (a : List ℕ). get_or a k 0) y;
+                fewer = let h = u.before in omega arith;
+              }
+        ]
 
 -- All rows -------------------------------------------------------------------------------------------------------------
 

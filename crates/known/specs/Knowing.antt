@@ -9,5 +9,7 @@ use Rattle.moves.specs.declared.Known.{Known}
 pub record KnownOf (p : Property) (k : Known) : Type 0 where
   pub parameters : k.parameters ≡ p.parameters
   pub states : k.states ≡ p.states
+  pub next : k.next ≡ p.next
+  pub verdicts : k.verdicts ≡ p.verdicts
   pub hopes : Hopes p k.hopeful
   pub asks : Asks p k.asked

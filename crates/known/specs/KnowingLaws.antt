@@ -1,8 +1,6 @@
 -- What follows from what is known of a property: the check over it is the document's.
 -- Assumes nothing.
-use Rattle.std.specs.Prelude.{◌≤◌, ◌≡◌, Bool, true, false, not}
-use Rattle.std.proofs.Common.{sym, ◌∙◌}
-use Rattle.std.proofs.lemmas.Bool.{not-false}
+use Rattle.std.specs.Prelude.{◌≤◌, ◌≡◌, true}
 use Rattle.document.specs.Limits.{most_states}
 use Rattle.document.specs.Positions.{holds}
 use Rattle.document.specs.Property.{Property, in_range, hopeful}
@@ -19,9 +17,5 @@ known_sound p k s u =
     rw (u.parameters, u.states, h) (sound_by-sound p s)
 
 -- what the calls beneath need
-module _ (p : Property) (f : Bool) (qf : f ≡ in_range p) (zf : not f ≡ false) where
-  pub taken_property : in_range p ≡ true
-  taken_property = sym qf ∙ not-false f zf
-
-  pub known_states : (k : Known) → KnownOf p k → k.states ≤ most_states
-  known_states k u = rw u.states (in_range_range p taken_property).few_states
+pub known_states : (p : Property) → in_range p ≡ true → (k : Known) → KnownOf p k → k.states ≤ most_states
+known_states p taken k u = rw u.states (in_range_range p taken).few_states

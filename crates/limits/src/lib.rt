@@ -19,12 +19,10 @@ pub const KEPT_STRIDE: usize = WIDTH + 1;
 
 pub const REPORT_STRIDE: usize = WIDTH + 1;
 
-// Events ("The declarations"); of each event the set of its parameters, or the place of its name in a text.
+// Events ("The declarations"), and of each the set of its parameters.
 pub const MOST_EVENTS: usize = 16;
 
 pub type EventSets = [u8; MOST_EVENTS];
-
-pub type Places = [usize; MOST_EVENTS];
 
 // Numbers of a position set: 0, and one for each event name in a pattern ("The table").
 pub const NUMBERS: usize = 32;

@@ -1,9 +1,12 @@
 -- Laws of lines: their pieces, written one after another, are the line; its length has a bound.
 -- Assumes nothing.
-use Rattle.std.specs.Prelude.{ℕ, zero, suc, ◌+◌, ◌*◌, ◌^◌, ◌≤◌, ◌<◌, ◌≡◌, refl, List, [], ◌∷◌, ◌++◌, length, get_or, take, drop, replicate, set}
-use Rattle.std.proofs.Common.{sym, ap, ◌∙◌, append_assoc, append-nil, arith, add-one, length-drop, take-suc, take-take, drop-drop, get_or-take, get_or-drop, eq-eqb, ne_eqb}
+use Rattle.std.specs.Prelude.{ℕ, zero, suc, ◌+◌, ◌-◌, ◌*◌, ◌^◌, ◌≤◌, ◌<◌, ◌≡◌, refl, List, [], ◌∷◌, ◌++◌, length, get_or, take, drop, replicate}
+use Rattle.std.proofs.Common.{sym, ap, ◌∙◌, append_assoc, append-nil, arith, add-one, take-suc, take-take, drop-drop, get_or-take, get_or-drop, eq-eqb, ne_eqb}
 use mathlib.Core.List as list
-use Rattle.std.proofs.lemmas.List.{replicate-append-replicate}
+use Rattle.std.proofs.Math.Seq.{take-length}
+use Rattle.std.proofs.lemmas.List.{length-replicate}
+use borrow.Rule.Slice.PartMut.{put_mid}
+use Rattle.std.specs.Simd.{first_chunks}
 use Rattle.document.specs.Lists.{joined_up}
 use Rattle.document.specs.Limits.{width, report_stride}
 use Rattle.document.specs.Classes.{comma, match_word, fail_word}
@@ -11,7 +14,7 @@ use Rattle.document.specs.Patterns.{match}
 use Rattle.document.specs.Refusals.{Refusal, number}
 use Rattle.document.specs.Printing.{decimal, line_end, refused_word, word_of, refused_text, with_commas, value_text, line, report_line, report_lines, refused_line}
 use Rattle.decimals.specs.Written.{Written}
-use Rattle.decimals.specs.WrittenLaws.{written_none, written_byte, written_then, written_within}
+use Rattle.decimals.specs.WrittenLaws.{written_none, written_part, written_then, written_within}
 use Rattle.decimals.specs.Decimals.{most_digits}
 use Rattle.decimals.specs.DecimalsLaws.{decimal-usize, decimal_value, decimal_byte}
 use Rattle.lineparts.specs.Lines.{values_text, refused_number_text, refused_number_line, most_value, most_values, most_verdict, most_refused, most_line, most_refusal, line_end_bytes}
@@ -46,24 +49,22 @@ pub values_begin : (at : ℕ) (t : List ℕ) → at ≤ length t → Written at 
 unfolding values_text with_commas joined_up
 values_begin at t h = written_none at t h
 
-pub values_turn : (at j k n from : ℕ) (l t t' t'' : List ℕ) → Written at (j * most_value) (values_text (take j (drop from l))) t t' k
-    → Written k most_value (comma ∷ value_text (get_or l (from + j) 0)) t' t'' n → from + j < length l
-    → Written at ((j + 1) * most_value) (values_text (take (j + 1) (drop from l))) t t'' n
-values_turn at j k n from l t t' t'' v w h =
-    let i : j < length (drop from l) = rw length-drop (omega arith) in
-    let e : take (j + 1) (drop from l) ≡ take j (drop from l) ++ (get_or l (from + j) 0 ∷ []) =
-    rw (add-one j, take-suc (drop from l) j 0 i, get_or-drop from l j 0) in
+pub values_turn : (at j k n : ℕ) (l t t' t'' : List ℕ) → Written at (j * most_value) (values_text (take j l)) t t' k
+    → Written k most_value (comma ∷ value_text (get_or l j 0)) t' t'' n → j < length l
+    → Written at ((j + 1) * most_value) (values_text (take (j + 1) l)) t t'' n
+values_turn at j k n l t t' t'' v w h =
+    let e : take (j + 1) l ≡ take j l ++ (get_or l j 0 ∷ []) = rw (add-one j, take-suc l j 0 h) in
     let z : (j + 1) * most_value ≡ j * most_value + most_value = omega arith in
     rw (e, values_snoc, z)
-    (written_then at k n (j * most_value) most_value (values_text (take j (drop from l))) (comma ∷ value_text (get_or l (from + j) 0)) t t' t'' v w)
+    (written_then at k n (j * most_value) most_value (values_text (take j l)) (comma ∷ value_text (get_or l j 0)) t t' t'' v w)
 
-pub values_end : (at j m n from : ℕ) (l t t' : List ℕ) → j ≤ m → m ≤ j → m ≤ width
-    → Written at (j * most_value) (values_text (take j (drop from l))) t t' n → Written at most_values (values_text (take m (drop from l))) t t' n
-values_end at j m n from l t t' a b c w =
-    let e : j ≡ m = omega arith in
-    written_within at (m * most_value) most_values n (values_text (take m (drop from l))) t t' (rw e at w) (omega arith)
+pub values_end : (at j n : ℕ) (l t t' : List ℕ) → length l ≤ width → j ≤ length l → length l ≤ j
+    → Written at (j * most_value) (values_text (take j l)) t t' n → Written at most_values (values_text l) t t' n
+values_end at j n l t t' c a b w =
+    let e : j ≡ length l = omega arith in
+    written_within at (length l * most_value) most_values n (values_text l) t t' (rw (e, take-length) at w) (omega arith)
 
--- The loop over empty values ----------------------------------------------------------------------------------------------
+-- Empty values ------------------------------------------------------------------------------------------------------------
 
 pub commas_are : (n : ℕ) → with_commas (replicate n []) ≡ replicate n comma
 unfolding with_commas joined_up
@@ -73,16 +74,9 @@ commas_are (suc n) = ap (λ l. comma ∷ l) (commas_are n)
 pub commas_begin : (at : ℕ) (t : List ℕ) → at ≤ length t → Written at 0 (replicate 0 comma) t t (at + 0)
 commas_begin at t h = let e : at + 0 ≡ at = omega arith in rw e (written_none at t h)
 
-pub commas-turn : (at j : ℕ) (t t' : List ℕ) → at + j < length t' → Written at j (replicate j comma) t t' (at + j)
-    → Written at (j + 1) (replicate (j + 1) comma) t (set t' (at + j) comma) (at + (j + 1))
-commas-turn at j t t' h w =
-    let e : at + (j + 1) ≡ at + j + 1 = omega arith in
-    rw e
-    (rw (replicate-append-replicate j 1 comma) at (written_then at (at + j) (at + j + 1) j 1 (replicate j comma) (comma ∷ []) t t' _ w (written_byte (at + j) comma t' h)))
-
-pub commas-end : (at j m : ℕ) (t t' : List ℕ) → j ≤ m → m ≤ j → Written at j (replicate j comma) t t' (at + j)
-    → Written at m (with_commas (replicate m [])) t t' (at + j)
-commas-end at j m t t' a b w = let e : j ≡ m = omega arith in rw e (rw (commas_are m) (rw e at w))
+pub commas_written : (at n : ℕ) (t x : List ℕ) → at + n ≤ length t → x ≡ replicate n comma
+    → Written at n (with_commas (replicate n [])) t (put_mid at (at + n - at) t x) (at + n)
+commas_written at n t x h e = rw (commas_are n, e) (written_part at n (replicate n comma) t h (rw length-replicate))
 
 -- A whole line ------------------------------------------------------------------------------------------------------------
 
@@ -116,15 +110,14 @@ unfolding report_line
 report_is m n from l h =
     rw (take-take m report_stride (drop from l) (omega arith), get_or-take report_stride (drop from l) width 0 (omega arith), get_or-drop from l width 0)
 
-pub report_written : (at k l p n m row from : ℕ) (reports t t₁ t₂ t₃ t₄ : List ℕ) → m ≤ width
-    → Written at most_digits (decimal row) t t₁ k → Written k most_verdict (comma ∷ word_of (get_or reports (from + width) 0)) t₁ t₂ l
-    → Written l most_values (values_text (take m (drop from reports))) t₂ t₃ p → Written p line_end_bytes line_end t₃ t₄ n
-    → Written at most_line (report_line m row (take report_stride (drop from reports))) t t₄ n
-unfolding values_text
-report_written at k l p n m row from reports t t₁ t₂ t₃ t₄ h u v w x =
-    rw (report_is m row from reports h) at
-    (line-written at k l p n most_digits most_verdict most_values most_line (decimal row) (word_of (get_or reports (from + width) 0))
-    (list.map value_text (take m (drop from reports))) t t₁ t₂ t₃ t₄ u v w x (omega arith))
+pub report_written : (at k l p n m row : ℕ) (report t t₁ t₂ t₃ t₄ : List ℕ)
+    → Written at most_digits (decimal row) t t₁ k → Written k most_verdict (comma ∷ word_of (get_or report width 0)) t₁ t₂ l
+    → Written l most_values (values_text (take m report)) t₂ t₃ p → Written p line_end_bytes line_end t₃ t₄ n
+    → Written at most_line (report_line m row report) t t₄ n
+unfolding values_text report_line
+report_written at k l p n m row report t t₁ t₂ t₃ t₄ u v w x =
+    line-written at k l p n most_digits most_verdict most_values most_line (decimal row) (word_of (get_or report width 0))
+    (list.map value_text (take m report)) t t₁ t₂ t₃ t₄ u v w x (omega arith)
 
 -- The loop over reports ---------------------------------------------------------------------------------------------------
 
@@ -143,10 +136,21 @@ pub reports_begin : (at m n : ℕ) (l t : List ℕ) → at ≤ length t → Writ
 unfolding report_lines
 reports_begin at m n l t h = written_none at t h
 
-pub reports-turn : (at j k n m row from : ℕ) (l t t' t'' : List ℕ) → from ≡ j * report_stride
-    → Written at (j * most_line) (report_lines m row j l) t t' k → Written k most_line (report_line m row (take report_stride (drop from l))) t' t'' n
+chunk_is : (k j : ℕ) (l d : List ℕ) → j < k → get_or (first_chunks report_stride k l) j d ≡ take report_stride (drop (j * report_stride) l)
+chunk_is zero j l d h = absurd (omega arith)
+chunk_is (suc k) zero l d h = refl
+chunk_is (suc k) (suc j) l d h =
+    let e : suc j * report_stride ≡ report_stride + j * report_stride = omega arith in
+    chunk_is k j (drop report_stride l) d (omega arith) ∙ rw (drop-drop (j * report_stride) report_stride l, e)
+
+pub chunk_at : (k j count : ℕ) (l : List ℕ) (chunks : List (List ℕ)) → chunks ≡ first_chunks report_stride k l → j < count → count ≤ k
+    → get_or (take count chunks) j [] ≡ take report_stride (drop (j * report_stride) l)
+chunk_at k j count l chunks e h g = get_or-take count chunks j [] h ∙ rw e (chunk_is k j l [] (omega arith))
+
+pub reports-turn : (at j k n m row : ℕ) (l report t t' t'' : List ℕ) → report ≡ take report_stride (drop (j * report_stride) l)
+    → Written at (j * most_line) (report_lines m row j l) t t' k → Written k most_line (report_line m row report) t' t'' n
     → Written at ((j + 1) * most_line) (report_lines m row (j + 1) l) t t'' n
-reports-turn at j k n m row from l t t' t'' e v w =
+reports-turn at j k n m row l report t t' t'' e v w =
     let z : (j + 1) * most_line ≡ j * most_line + most_line = omega arith in
     let last = report_line m row (take report_stride (drop (j * report_stride) l)) in
     rw (z, add-one j, reports_snoc m row j l)

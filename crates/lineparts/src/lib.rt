@@ -11,13 +11,15 @@ ghost use Rattle.decimals.specs.Written.{Written};
 ghost use Rattle.decimals.specs.Decimals.{most_digits};
 ghost use Rattle.lineparts.specs.Lines.{values_text, refused_number_text, most_value, most_values, most_verdict, most_refused, line_end_bytes};
 
+use verdicts::Verdict;
+
 // Bytes of a line end.
 pub const LINE_END: usize = 2;
 
-// The verdict `match`; any other that is reported is `fail`.
-const MATCH: u32 = 1;
+// The verdict `match`, as a report has it; any other that is reported is `fail`.
+const MATCH: u32 = Verdict::Match as u32;
 
-pub const COMMA: u8 = 44;
+pub const COMMA: u8 = b',';
 
 // Writes the number of a row.
 pub fn put_row_number(text: &mut [u8], at: usize, row: usize) -> usize
@@ -34,27 +36,21 @@ fn put_value(text: &mut [u8], at: usize, x: u32) -> usize
 {
     let next = decimals::put_byte(text, at, COMMA);
     if x == 0 {
-        return next;
+        next
+    } else {
+        decimals::put_decimal(text, next, x as usize)
     }
-    decimals::put_decimal(text, next, x as usize)
 }
 
-// Writes the values of a report, as many as there are parameters.
-pub fn put_values(
-    text: &mut [u8],
-    at: usize,
-    parameters: usize,
-    reports: &[u32],
-    from: usize,
-) -> usize
-    requires { (parameters ≤ width) × ((at + most_values ≤ length text.old) × (from + width ≤ length reports.now)) }
-    ensures { Written at most_values (values_text (take parameters (drop from reports.now))) text.old text.new result }
+// Writes the values of a report.
+pub fn put_values(text: &mut [u8], at: usize, values: &[u32]) -> usize
+    requires few { length values.now ≤ width }
+    requires room { at + most_values ≤ length text.old }
+    ensures { Written at most_values (values_text values.now) text.old text.new result }
 {
     let mut next = at;
-    let mut j: usize = 0;
-    while j < parameters {
-        next = put_value(text, next, reports[from + j]);
-        j += 1;
+    for &x in values {
+        next = put_value(text, next, x);
     }
     next
 }
@@ -64,10 +60,10 @@ pub fn put_verdict(text: &mut [u8], at: usize, verdict: u32) -> usize
     requires { at + most_verdict ≤ length text.old }
     ensures { Written at most_verdict (comma ∷ word_of verdict) text.old text.new result }
 {
-    if verdict == MATCH {
-        return decimals::put_bytes(text, at, b",match");
+    match verdict {
+        MATCH => decimals::put_bytes(text, at, b",match"),
+        _ => decimals::put_bytes(text, at, b",fail"),
     }
-    decimals::put_bytes(text, at, b",fail")
 }
 
 // Writes the commas of values that are all empty.
@@ -75,12 +71,9 @@ pub fn put_commas(text: &mut [u8], at: usize, count: usize) -> usize
     requires { at + count ≤ length text.old }
     ensures { Written at count (with_commas (replicate count [])) text.old text.new result }
 {
-    let mut j: usize = 0;
-    while j < count {
-        text[at + j] = COMMA;
-        j += 1;
-    }
-    at + j
+    let end = at + count;
+    text[at..end].fill(COMMA);
+    end
 }
 
 // Writes `refused`, a space and the number.

@@ -2,22 +2,21 @@
 // Interior: a line is written at a place of the caller's text, and the place after it is given back. The caller sees to the
 // room, by `lines_fit`, or by lending `MOST_REFUSAL` bytes. It leans on `lineparts`.
 //
-//     put_reports(text, at, 2, 7, [5, 0, 0, 0, 1], 1) writes `7,match,5,` and a line end at the place `at`.
+//     put_reports(text, at, 2, 7, &[5, 0, 0, 0, 1], 1) writes `7,match,5,` and a line end at the place `at`.
 
 #![tactic(auto)]
 
-ghost use Rattle.std.specs.Prelude.{◌≡◌, ◌++◌, ◌+◌, ◌*◌, ◌≤◌, length, take, drop, leb};
+ghost use Rattle.std.specs.Prelude.{◌≡◌, ◌++◌, ◌+◌, ◌*◌, ◌≤◌, length, leb};
 ghost use Rattle.document.specs.Limits.{width, report_stride};
 ghost use Rattle.document.specs.Printing.{line_end, report_line, report_lines};
 ghost use Rattle.decimals.specs.Written.{Written};
 ghost use Rattle.lineparts.specs.Lines.{refused_number_text, refused_number_line, most_line, most_refusal};
 
+use decimals::MOST_DIGITS;
 use limits::{REPORT_STRIDE, WIDTH};
 
-// Bytes that the parts of a line can have at most: a row's number; a verdict and a value, each with its comma; `refused ` and its
-// number.
-const MOST_DIGITS: usize = decimals::SURE_DIGITS + 1;
-
+// Bytes that the parts of a line can have at most, besides a row's number: a verdict and a value, each with its comma; `refused `
+// and its number.
 const MOST_VERDICT: usize = 6;
 
 const MOST_VALUE: usize = 11;
@@ -34,27 +33,24 @@ pub const MOST_REFUSAL: usize = MOST_REFUSED + lineparts::LINE_END;
 pub fn lines_fit(size: usize, at: usize, count: usize) -> bool
     ensures { result ≡ leb (at + count * most_line) size }
 {
-    if size < at {
-        return false;
-    }
-    count <= (size - at) / MOST_LINE
+    at <= size && count <= (size - at) / MOST_LINE
 }
 
-// Writes the line of the report that stands from a place of the report numbers on.
+// Writes the line of a report.
 pub fn put_report(
     text: &mut [u8],
     at: usize,
     parameters: usize,
     row: usize,
-    reports: &[u32],
-    from: usize,
+    report: &[u32; REPORT_STRIDE],
 ) -> usize
-    requires { (parameters ≤ width) × ((at + most_line ≤ length text.old) × (from + report_stride ≤ length reports.now)) }
-    ensures { Written at most_line (report_line parameters row (take report_stride (drop from reports.now))) text.old text.new result }
+    requires few { parameters ≤ width }
+    requires room { at + most_line ≤ length text.old }
+    ensures { Written at most_line (report_line parameters row report.now) text.old text.new result }
 {
     let verdict_at = lineparts::put_row_number(text, at, row);
-    let values_at = lineparts::put_verdict(text, verdict_at, reports[from + WIDTH]);
-    let end_at = lineparts::put_values(text, values_at, parameters, reports, from);
+    let values_at = lineparts::put_verdict(text, verdict_at, report[WIDTH]);
+    let end_at = lineparts::put_values(text, values_at, &report[..parameters]);
     lineparts::put_line_end(text, end_at)
 }
 
@@ -71,12 +67,9 @@ pub fn put_reports(
     ensures { Written at (count * most_line) (report_lines parameters row count reports.now) text.old text.new result }
 {
     let mut next = at;
-    let mut from: usize = 0;
-    let mut j: usize = 0;
-    while j < count {
-        next = put_report(text, next, parameters, row, reports, from);
-        from += REPORT_STRIDE;
-        j += 1;
+    let (reports, _) = reports.as_chunks::<REPORT_STRIDE>();
+    for report in &reports[..count] {
+        next = put_report(text, next, parameters, row, report);
     }
     next
 }
@@ -94,6 +87,7 @@ pub fn put_refused(text: &mut [u8], at: usize, parameters: usize, row: usize, re
 }
 
 // Writes the only line of a refused call.
+// Stays: a number, which is what is printed, and which the face answers to hosts in C.
 pub fn put_refusal(text: &mut [u8], at: usize, refusal: u8) -> usize
     requires { at + most_refusal ≤ length text.old }
     ensures { Written at most_refusal (refused_number_text refusal ++ line_end) text.old text.new result }

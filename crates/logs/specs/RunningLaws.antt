@@ -1,4 +1,4 @@
--- The turns of the run, and that over declarations as they were read it is the document's.
+-- The turns of the run, over declarations as they were read.
 -- Assumes nothing.
 use Rattle.std.specs.Prelude.{ℕ, suc, ◌+◌, ◌-◌, ◌*◌, ◌^◌, ◌<◌, ◌≤◌, ◌≡◌, true, List, length}
 use Rattle.std.proofs.Math.Path.{refl, sym, ap, subst}
@@ -11,9 +11,8 @@ use Rattle.document.specs.Declarations.{Declared}
 use Rattle.document.specs.Property.{Property, in_range}
 use Rattle.document.specs.Session.{Session, Happened, sound}
 use Rattle.document.specs.Log.{step_row, agrees, row_at, next_at, Ran, ran_to, run_from}
-use Rattle.entries.specs.Entries.{declared_at}
 use Rattle.judge.specs.Sound.{session_of}
-use Rattle.moves.specs.declared.Known.{Known}
+use Rattle.judging.specs.declared.Judged.{Judged}
 use Rattle.runs.specs.Turns.{run_spent, run_ended, run_refused, run_taken}
 use Rattle.runs.specs.TwoCalls.{row-reports}
 use Rattle.runs.specs.SoundRuns.{row-sound}
@@ -23,12 +22,11 @@ use Rattle.turns.specs.SureLaws.{row_step_same}
 use Rattle.turns.specs.Turns.{ran_of, RunLeaves, took, turn_by, Onward}
 use Rattle.logs.specs.Running.{turn, Going}
 
-module _ (text starts sizes sets : List ℕ) (p : Property) (k : Known) (w : Sure text starts sizes sets p k) where
-  pub turn_same : (log : List ℕ) (rows at n m : ℕ) (seen kept reports : List ℕ) (count : ℕ) → sound p (session_of n m seen kept) ≡ true
-      → turn_by p.next p.verdicts k.hopeful k.asked (declared_at text starts sizes sets p.events k.parameters) log rows at (session_of n m seen kept) reports count
-      ≡ turn (read_as text starts sizes sets p k) p log rows at (session_of n m seen kept) reports count
-  unfolding turn_by turn
-  turn_same log rows at n m seen kept reports count f = rw (row_step_same text starts sizes sets p k w n m seen kept reports (row_at log at) (count * report_stride) f)
+pub turn_same : (p : Property) (c : Judged) → Sure p c
+    → (log : List ℕ) (rows at n m : ℕ) (seen kept reports : List ℕ) (count : ℕ) → sound p (session_of n m seen kept) ≡ true
+    → turn_by c log rows at (session_of n m seen kept) reports count ≡ turn (read_as c) p log rows at (session_of n m seen kept) reports count
+unfolding turn_by turn
+turn_same p c w log rows at n m seen kept reports count f = rw (row_step_same p c w n m seen kept reports (row_at log at) (count * report_stride) f)
 
 -- The run on the way ---------------------------------------------------------------------------------------------------
 
@@ -63,7 +61,7 @@ module _ (d : Declared) (p : Property) (log : List ℕ) (rows at : ℕ) (s : Ses
       go (taken h) e = let u = rw e at v in absurd (z (ap (λ (y : Answered). y.refusal) u.says))
       go (refused q o) e = rw (run_refused d p log budget rows at s reports count q o l e) (rw e at v)
 
-module _ (d : Declared) (p : Property) (range : in_range p ≡ true) (agree : agrees d p ≡ true) (log : List ℕ) (budget : ℕ) (whole : Ran) (r : Answered) (seen kept reports : List ℕ)
+module _ (d : Declared) (p : Property) (log : List ℕ) (budget : ℕ) (whole : Ran) (r : Answered) (seen kept reports : List ℕ)
     (g : Going d p log budget whole r seen kept reports) where
   -- no rows left to take, and the log's end
   pub going_spent : budget ≤ r.taken → RunLeaves whole r seen kept reports
@@ -91,7 +89,7 @@ module _ (d : Declared) (p : Property) (range : in_range p ≡ true) (agree : ag
         reports_left = refl;
       })
 
-  module _ (more : r.taken < budget) (l : r.next < length log) (r' : Answered) (seen' kept' reports' : List ℕ)
+  module _ (range : in_range p ≡ true) (agree : agrees d p ≡ true) (more : r.taken < budget) (l : r.next < length log) (r' : Answered) (seen' kept' reports' : List ℕ)
       (v : RunLeaves (turn d p log r.taken r.next (session_of r.seen r.kept seen kept) reports r.reported) r' seen' kept' reports') where
     one_less : budget - r.taken ≡ suc (budget - (r.taken + 1))
     one_less = omega arith
@@ -140,20 +138,20 @@ pub going_onward : (d : Declared) (p : Property) (log : List ℕ) (budget : ℕ)
     → Going d p log budget whole r seen kept reports → r.taken < budget → budget < 2 ^ 64 → r.next < length log → length reports < 2 ^ 64 → Onward r log reports
 going_onward d p log budget whole r seen kept reports g h b l k = record { lent = k; fits = g.fits; row = l; few = omega arith }
 
--- the loop's turns: over what was worked out once
-module _ (text starts sizes sets : List ℕ) (p : Property) (k : Known) (w : Sure text starts sizes sets p k) (log : List ℕ) (budget : ℕ) (whole : Ran) (r : Answered) (seen kept reports : List ℕ)
-    (g : Going (read_as text starts sizes sets p k) p log budget whole r seen kept reports) (more : r.taken < budget) (l : r.next < length log) (r' : Answered) (seen' kept' reports' : List ℕ)
-    (v : RunLeaves (turn_by p.next p.verdicts k.hopeful k.asked (declared_at text starts sizes sets p.events k.parameters) log r.taken r.next (session_of r.seen r.kept seen kept) reports r.reported) r' seen' kept' reports') where
-  turned : RunLeaves (turn (read_as text starts sizes sets p k) p log r.taken r.next (session_of r.seen r.kept seen kept) reports r.reported) r' seen' kept' reports'
-  turned = rw (turn_same text starts sizes sets p k w log r.taken r.next r.seen r.kept seen kept reports r.reported g.sound) at v
+-- the loop's turns: over what the call goes by
+module _ (p : Property) (c : Judged) (w : Sure p c) (log : List ℕ) (budget : ℕ) (whole : Ran) (r : Answered) (seen kept reports : List ℕ)
+    (g : Going (read_as c) p log budget whole r seen kept reports) (more : r.taken < budget) (l : r.next < length log) (r' : Answered) (seen' kept' reports' : List ℕ)
+    (v : RunLeaves (turn_by c log r.taken r.next (session_of r.seen r.kept seen kept) reports r.reported) r' seen' kept' reports') where
+  turned : RunLeaves (turn (read_as c) p log r.taken r.next (session_of r.seen r.kept seen kept) reports r.reported) r' seen' kept' reports'
+  turned = rw (turn_same p c w log r.taken r.next r.seen r.kept seen kept reports r.reported g.sound) at v
 
   pub loop_refused : (r'.refusal ≡ 0 → ⊥) → RunLeaves whole r' seen' kept' reports'
-  loop_refused = going_refused (read_as text starts sizes sets p k) p w.range w.agree log budget whole r seen kept reports g more l r' seen' kept' reports' turned
+  loop_refused = going_refused (read_as c) p log budget whole r seen kept reports g w.range w.agree more l r' seen' kept' reports' turned
 
-  pub loop_taken : r'.refusal ≡ 0 → Going (read_as text starts sizes sets p k) p log budget whole r' seen' kept' reports'
-  loop_taken = going_turn (read_as text starts sizes sets p k) p w.range w.agree log budget whole r seen kept reports g more l r' seen' kept' reports' turned
+  pub loop_taken : r'.refusal ≡ 0 → Going (read_as c) p log budget whole r' seen' kept' reports'
+  loop_taken = going_turn (read_as c) p log budget whole r seen kept reports g w.range w.agree more l r' seen' kept' reports' turned
 
   pub loop_counts : r'.refusal ≡ 0 → r'.taken ≡ r.taken + 1
   loop_counts z =
-      let c = is_taken (read_as text starts sizes sets p k) p log r.taken r.next (session_of r.seen r.kept seen kept) reports r.reported r' seen' kept' reports' turned z in
-      ap (λ (y : Answered). y.taken) c.row
+      let q = is_taken (read_as c) p log r.taken r.next (session_of r.seen r.kept seen kept) reports r.reported r' seen' kept' reports' turned z in
+      ap (λ (y : Answered). y.taken) q.row

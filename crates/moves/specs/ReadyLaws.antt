@@ -5,9 +5,9 @@ use Rattle.std.proofs.Math.Path.{refl}
 use Rattle.std.proofs.Common.{sym, ap, subst, ◌∙◌, arith, zero-add}
 use Rattle.std.proofs.Math.Logic.{inl, inr}
 use borrow.Author.Tests.{not-true, not-false}
+use mir.Val.{bool_byte}
 use Rattle.document.specs.Lists.{In, equal, among}
-use Rattle.document.specs.Limits.{width, kept_stride, most_events, most_states}
-use Rattle.document.specs.Positions.{holds}
+use Rattle.document.specs.Limits.{width, kept_stride, most_states}
 use Rattle.document.specs.Combinations.{empty_of, includes, compatible, join, precedes}
 use Rattle.document.specs.OneEvent.{Kept, join_seen, moves, insert_seen, see}
 use Rattle.document.specs.Tables.{numbers_at, seen_rows}
@@ -26,13 +26,13 @@ use Rattle.moves.specs.MovesLaws.{in_place_moves, old-moves}
 
 -- Whether the binding is new -------------------------------------------------------------------------------------------
 
-pub new_empty : (b : List ℕ) (seen : List (List ℕ)) (f : Bool) → f ≡ equal b (empty_of width) → f ≡ true → false ≡ is_new b seen
+pub new_empty : (b : List ℕ) (seen : List (List ℕ)) (f : Bool) → f ≡ equal b (empty_of width) → not f ≡ false → not f ≡ is_new b seen
 unfolding is_new
-new_empty b seen f e z = rw (sym e ∙ z)
+new_empty b seen f e z = let q = not-false f z in rw (q, sym e ∙ q)
 
-pub new_seen : (b : List ℕ) (seen : List (List ℕ)) (f g : Bool) → f ≡ equal b (empty_of width) → f ≡ false → g ≡ among b seen → not g ≡ is_new b seen
+pub new_seen : (b : List ℕ) (seen : List (List ℕ)) (f g : Bool) → f ≡ equal b (empty_of width) → not f ≡ true → g ≡ among b seen → not g ≡ is_new b seen
 unfolding is_new
-new_seen b seen f g e z q = rw (sym e ∙ z, q)
+new_seen b seen f g e z q = rw (sym e ∙ not-true f z, q)
 
 -- Whether a row moves --------------------------------------------------------------------------------------------------
 
@@ -44,39 +44,37 @@ abbrev any_row : List ℕ → Kept
 any_row k = record { combination = k; state = 0 }
 
 module _ (n : ℕ) (seen b k : List ℕ) (fresh : Bool) (u : Binds n seen b fresh) (j : Joint n seen k) where
-  pub creates-old : includes k b ≡ false → not fresh ≡ true → false ≡ moves_at b (seen_rows n seen) k
+  pub creates-old : includes k b ≡ false → fresh ≡ false → false ≡ moves_at b (seen_rows n seen) k
   creates-old h z =
       sym (sym (moves_at_lem (λ s e. 0) 0 b (seen_rows n seen) (any_row k))
-      ∙ old-moves (λ s e. 0) 0 b (seen_rows n seen) u.wide (any_row k) j.wide (sym u.new ∙ not-true fresh z) h)
+      ∙ old-moves (λ s e. 0) 0 b (seen_rows n seen) u.wide (any_row k) j.wide (sym u.new ∙ z) h)
 
-  pub creates_apart : (f : Bool) → f ≡ compatible b k → not f ≡ true → false ≡ moves_at b (seen_rows n seen) k
+  pub creates_apart : compatible b k ≡ false → false ≡ moves_at b (seen_rows n seen) k
   unfolding moves_at
-  creates_apart f e z = rw (sym e ∙ not-true f z)
+  creates_apart z = rw z
 
-  pub creates_joins : (f : Bool) (c : List ℕ) → f ≡ compatible b k → not f ≡ false → c ≡ join b k → Joins n seen c k
-  creates_joins f c e z q = rw q (record {
+  pub creates_joins : (c : List ℕ) → compatible b k ≡ true → c ≡ join b k → Joins n seen c k
+  creates_joins c z q = rw q (record {
     wide = length-join width b k u.wide j.wide;
     same = j.wide;
-    more = true_of (includes (join b k) k) (join_includes_right b k (so (sym e ∙ not-false f z)));
+    more = true_of (includes (join b k) k) (join_includes_right b k (so z));
     itself = j.joins;
   })
 
-  pub creates-is : (f g : Bool) (c : List ℕ) → f ≡ compatible b k → not f ≡ false → c ≡ join b k → g ≡ equal (join_seen width c (seen_rows n seen)) k
+  pub creates-is : (g : Bool) (c : List ℕ) → compatible b k ≡ true → c ≡ join b k → g ≡ equal (join_seen width c (seen_rows n seen)) k
       → g ≡ moves_at b (seen_rows n seen) k
   unfolding moves_at
-  creates-is f g c e z q r = rw (sym e ∙ not-false f z, ← q) r
+  creates-is g c z q r = rw (z, ← q) r
 
-  pub moves_in_place : (f : Bool) → f ≡ includes k b → f ≡ true → true ≡ moves_at b (seen_rows n seen) k
+  pub moves_in_place : (f : Bool) → f ≡ includes k b → f ≡ true → f ≡ moves_at b (seen_rows n seen) k
   moves_in_place f e z =
-      sym (sym (moves_at_lem (λ s e. 0) 0 b (seen_rows n seen) (any_row k))
+      z ∙ sym (sym (moves_at_lem (λ s e. 0) 0 b (seen_rows n seen) (any_row k))
       ∙ in_place_moves (λ s e. 0) 0 b (seen_rows n seen) u.wide (any_row k) (record { wide = j.wide; joins = j.joins }) (sym e ∙ z))
 
-pub next-is : (next : List ℕ) (s e s' r : ℕ) → s' ≡ s → r ≡ get_or next (s' * most_events + e) 0 → r ≡ step_of next s e
-unfolding step_of
-next-is next s e s' r p q = rw (← p) q
-
-pub is_among : (set s i : ℕ) (f : Bool) → i ≡ s → f ≡ holds set i → f ≡ holds set s
-is_among set s i f p q = q ∙ ap (holds set) p
+-- `usize::from` of a test
+pub one_from : (b : Bool) → bool_byte b ≡ one b
+one_from true = refl
+one_from false = refl
 
 pub one_small : (b : Bool) → one b ≤ 1
 one_small true = omega arith

@@ -4,100 +4,95 @@
 
 #![tactic(auto)]
 
-ghost use Rattle.std.specs.Prelude.{◌<◌, ◌≤◌, ◌≡◌, false};
+ghost use Rattle.std.specs.Prelude.{◌<◌, ◌≡◌, false, get_or};
 ghost use Rattle.document.specs.Limits.{most_events, most_states};
 ghost use Rattle.document.specs.Positions.{holds};
 ghost use Rattle.document.specs.Combinations.{includes};
 ghost use Rattle.document.specs.Tables.{seen_rows};
-ghost use Rattle.ordered.specs.Rows.{SeenInOrder};
-ghost use Rattle.moves.specs.Steps.{one, is_new, step_of, moves_at};
+ghost use Rattle.moves.specs.Steps.{is_new, step_of, moves_at};
 ghost use Rattle.moves.specs.Ready.{Binds, Joint};
 
-use limits::{Combination, MOST_EVENTS, Transitions};
+use limits::{Combination, MOST_EVENTS, Transitions, Verdicts};
+use ordered::Seen;
 
-// What is worked out once for a property and then used at each event: its counts, and its hopeful states and those whose
-// verdict is asked for, as bits.
+// What is worked out once for a property and then used at each event: its counts, transitions and verdicts, and its hopeful
+// states and those whose verdict is asked for, as bits.
+// Stays: what is asked of it stands in clauses (`Onward`), with the event that goes by it.
 #[derive(Clone, Copy)]
 pub struct Known {
     pub parameters: usize,
     pub states: usize,
+    pub next: Transitions,
+    pub verdicts: Verdicts,
     pub hopeful: u64,
     pub asked: u64,
 }
 
-// A number as a place.
-pub fn wide(x: u32) -> usize
-    ensures { result ≡ x }
-{
-    x as usize
-}
-
-// A byte as a number of a table.
-pub fn number(x: u8) -> u32
-    ensures { result ≡ x }
-{
-    x as u32
-}
-
-// 1 where a test holds, else 0.
-pub fn one(test: bool) -> usize
-    ensures { (result ≡ one test) × (result ≤ 1) }
-{
-    if test {
-        return 1;
+impl Known {
+    // The state that an event leads to.
+    pub fn next_state(&self, s: u32, e: usize) -> u32
+        requires { (s < most_states) × (e < most_events) }
+        ensures { result ≡ step_of self.now.next s e }
+    {
+        self.next[s as usize * MOST_EVENTS + e] as u32
     }
-    0
-}
 
-// Whether a state is one of a set of states.
-pub fn is_among(states: u64, s: u32) -> bool
-    requires { s < most_states }
-    ensures { result ≡ holds states s }
-{
-    bits::has(states, wide(s))
-}
+    // Whether a row in this state stays kept.
+    pub fn is_hopeful(&self, s: u32) -> bool
+        requires { s < most_states }
+        ensures { result ≡ holds self.now.hopeful s }
+    {
+        bits::has(self.hopeful, s as usize)
+    }
 
-// The state that an event leads to.
-pub fn next_state(next: &Transitions, s: u32, e: usize) -> u32
-    requires { (s < most_states) × (e < most_events) }
-    ensures { result ≡ step_of next.now s e }
-{
-    let at = wide(s) * MOST_EVENTS + e;
-    number(next[at])
+    // Whether a row that moves to this state is reported.
+    pub fn is_asked(&self, s: u32) -> bool
+        requires { s < most_states }
+        ensures { result ≡ holds self.now.asked s }
+    {
+        bits::has(self.asked, s as usize)
+    }
+
+    // The verdict of a state.
+    pub fn verdict(&self, s: u32) -> u32
+        requires { s < most_states }
+        ensures { result ≡ get_or self.now.verdicts s 0 }
+    {
+        self.verdicts[s as usize] as u32
+    }
 }
 
 // Whether the binding is neither empty nor seen.
-pub fn is_new(b: Combination, seen: &[u32], n: usize) -> bool
-    requires { SeenInOrder n seen.now }
-    ensures { result ≡ is_new b (seen_rows n seen.now) }
+pub fn is_new(b: Combination, seen: Seen) -> bool
+    ensures { result ≡ is_new b (seen_rows seen.entry.count seen.entry.numbers.now) }
 {
-    if combos::is_empty(b) {
-        return false;
-    }
-    !ordered::seen_holds(seen, n, b)
+    !combos::is_empty(b) && !seen.holds(b)
 }
 
-// Whether the row of a combination that does not include the binding moves. A binding that is not new creates nothing.
-pub fn creates(fresh: bool, b: Combination, k: Combination, seen: &[u32], n: usize) -> bool
-    requires { Binds n seen.now b fresh × Joint n seen.now k × (includes k b ≡ false) }
-    ensures { result ≡ moves_at b (seen_rows n seen.now) k }
-{
-    if !fresh {
-        return false;
-    }
-    if !combos::compatible(b, k) {
-        return false;
-    }
-    joins::joins_to(combos::join(b, k), k, seen, n)
+// An event: its number, what it binds, and whether that is neither empty nor seen.
+#[derive(Clone, Copy)]
+pub struct Event {
+    pub number: usize,
+    pub binding: Combination,
+    pub fresh: bool,
 }
 
-// Whether the row of a combination moves: in place where it includes the binding.
-pub fn moves(fresh: bool, b: Combination, k: Combination, seen: &[u32], n: usize) -> bool
-    requires { Binds n seen.now b fresh × Joint n seen.now k }
-    ensures { result ≡ moves_at b (seen_rows n seen.now) k }
-{
-    if combos::includes(k, b) {
-        return true;
+impl Event {
+    // Whether the row of a combination that does not include the binding moves. A binding that is not new creates nothing.
+    pub fn creates(&self, k: Combination, seen: Seen) -> bool
+        requires { Binds seen.count seen.numbers.now self.now.binding self.now.fresh × Joint seen.count seen.numbers.now k × (includes k self.now.binding ≡ false) }
+        ensures { result ≡ moves_at self.now.binding (seen_rows seen.entry.count seen.entry.numbers.now) k }
+    {
+        self.fresh
+            && combos::compatible(self.binding, k)
+            && joins::joins_to(combos::join(self.binding, k), k, seen)
     }
-    creates(fresh, b, k, seen, n)
+
+    // Whether the row of a combination moves: in place where it includes the binding.
+    pub fn moves(&self, k: Combination, seen: Seen) -> bool
+        requires { Binds seen.count seen.numbers.now self.now.binding self.now.fresh × Joint seen.count seen.numbers.now k }
+        ensures { result ≡ moves_at self.now.binding (seen_rows seen.entry.count seen.entry.numbers.now) k }
+    {
+        combos::includes(k, self.binding) || self.creates(k, seen)
+    }
 }

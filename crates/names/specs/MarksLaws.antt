@@ -1,9 +1,11 @@
--- Laws of tests over the fields of a row, as the loops over a split row meet them: at a field, and past the last.
+-- Laws of tests over the fields of a row, by their numbers in a split row, and of the set that its marks say.
 -- Assumes nothing.
-use Rattle.std.specs.Prelude.{ℕ, suc, ◌+◌, ◌-◌, ◌*◌, ◌^◌, ◌≤◌, ◌<◌, ◌≡◌, refl, Bool, true, false, not, cond, List, [], ◌∷◌, length, drop}
-use Rattle.std.proofs.Common.{sym, ◌∙◌, drop_of_length-le, drop-cons, pow_mono, arith, add-one}
+use Rattle.std.specs.Prelude.{ℕ, zero, suc, ◌+◌, ◌-◌, ◌*◌, ◌^◌, ◌≤◌, ◌<◌, ◌≡◌, refl, Bool, true, false, cond, ◌&&◌, ◌||◌, List, [], ◌∷◌, length, drop, eqb}
+use Rattle.std.specs.List.{list_all, list_any, range_with_len}
+use lib.Pointwise.{pointwise}
+use Rattle.fields.specs.SameLaws.{equal_is}
+use Rattle.std.proofs.Common.{ap, ◌∙◌, drop_of_length-le, drop-cons, pow_mono, arith, add-one}
 use Rattle.std.proofs.Math.Nat.{two-pow-succ}
-use Rattle.std.proofs.lemmas.Bool.{not-true, not-false}
 use Rattle.document.specs.Lists.{every, some, among, repeated, equal}
 use Rattle.document.specs.Limits.{width}
 use Rattle.document.specs.Classes.{one_byte}
@@ -22,61 +24,29 @@ fields_here row f k s m h = let c = (split_counts row f s).few m in rw (add-one,
 fields-past : (row : List ℕ) (f : Fields) (k : ℕ) → Split row f → f.count ≤ most_fields → f.count ≤ k → drop k (fields row) ≡ []
 fields-past row f k s m h = let c = (split_counts row f s).few m in let l : length (fields row) ≤ k = omega arith in drop_of_length-le (fields row) l
 
--- Whether every field after the first passes a test.
-pub all_fails : (p : List ℕ → Bool) (row : List ℕ) (f : Fields) (k : ℕ) → every p (drop k (fields row)) ≡ every p (drop 1 (fields row))
-    → Split row f → f.count ≤ most_fields → k < f.count
-    → (x : List ℕ) → x ≡ field row k → (d : Bool) → d ≡ p x → not d ≡ true → false ≡ every p (drop 1 (fields row))
-unfolding every
-all_fails p row f k q s m h x e d t n = rw (fields_here row f k s m h, ← e, sym t ∙ not-true d n) at q
+-- Tests at the numbers of the fields from one on, n of them: whether all pass, whether a name is one of them, whether some
+-- stands again.
+module _ (row : List ℕ) (f : Fields) (s : Split row f) (m : f.count ≤ most_fields) where
+  pub all_pass : (p : List ℕ → Bool) (k n : ℕ) → f.count - k ≡ n → list_all (λ j. p (field row j)) (range_with_len k n) ≡ every p (drop k (fields row))
+  unfolding every
+  all_pass p k zero h = rw (fields-past row f k s m (omega arith))
+  all_pass p k (suc n) h = rw (fields_here row f k s m (omega arith)) (ap (λ b. p (field row k) && b) (all_pass p (k + 1) n (omega arith)))
 
-pub all_turn : (p : List ℕ → Bool) (row : List ℕ) (f : Fields) (k : ℕ) → every p (drop k (fields row)) ≡ every p (drop 1 (fields row))
-    → Split row f → f.count ≤ most_fields → k < f.count
-    → (x : List ℕ) → x ≡ field row k → (d : Bool) → d ≡ p x → not d ≡ false
-    → every p (drop (k + 1) (fields row)) ≡ every p (drop 1 (fields row))
-unfolding every
-all_turn p row f k q s m h x e d t n = rw (fields_here row f k s m h, ← e, sym t ∙ not-false d n) at q
+  pub some_same : (name : List ℕ) (k n : ℕ) → f.count - k ≡ n
+      → list_any (λ j. pointwise eqb name (field row j)) (range_with_len k n) ≡ among name (drop k (fields row))
+  unfolding among some
+  some_same name k zero h = rw (fields-past row f k s m (omega arith))
+  some_same name k (suc n) h =
+      rw (fields_here row f k s m (omega arith), equal_is name (field row k))
+      (ap (λ b. pointwise eqb name (field row k) || b) (some_same name (k + 1) n (omega arith)))
 
-pub all_over : (p : List ℕ → Bool) (row : List ℕ) (f : Fields) (k : ℕ) → every p (drop k (fields row)) ≡ every p (drop 1 (fields row))
-    → Split row f → f.count ≤ most_fields → f.count ≤ k → true ≡ every p (drop 1 (fields row))
-unfolding every
-all_over p row f k q s m h = rw (fields-past row f k s m h) at q
-
--- Whether a name stands among the fields from a place on; `b` is what it comes to.
-pub again_found : (name row : List ℕ) (f : Fields) (k : ℕ) (b : Bool) → among name (drop k (fields row)) ≡ b
-    → Split row f → f.count ≤ most_fields → k < f.count
-    → (x : List ℕ) → x ≡ field row k → (d : Bool) → d ≡ equal name x → d ≡ true → true ≡ b
-unfolding among some
-again_found name row f k b q s m h x e d t n = rw (fields_here row f k s m h, ← e, sym t ∙ n) at q
-
-pub again_turn : (name row : List ℕ) (f : Fields) (k : ℕ) (b : Bool) → among name (drop k (fields row)) ≡ b
-    → Split row f → f.count ≤ most_fields → k < f.count
-    → (x : List ℕ) → x ≡ field row k → (d : Bool) → d ≡ equal name x → d ≡ false → among name (drop (k + 1) (fields row)) ≡ b
-unfolding among some
-again_turn name row f k b q s m h x e d t n = rw (fields_here row f k s m h, ← e, sym t ∙ n) at q
-
-pub again_over : (name row : List ℕ) (f : Fields) (k : ℕ) (b : Bool) → among name (drop k (fields row)) ≡ b
-    → Split row f → f.count ≤ most_fields → f.count ≤ k → false ≡ b
-unfolding among some
-again_over name row f k b q s m h = rw (fields-past row f k s m h) at q
-
--- Whether some field after the first stands twice.
-pub repeat_found : (row : List ℕ) (f : Fields) (k : ℕ) → repeated (drop k (fields row)) ≡ repeated (drop 1 (fields row))
-    → Split row f → f.count ≤ most_fields → k < f.count
-    → (d : Bool) → d ≡ among (field row k) (drop (k + 1) (fields row)) → d ≡ true → true ≡ repeated (drop 1 (fields row))
-unfolding repeated
-repeat_found row f k q s m h d t n = rw (fields_here row f k s m h, sym t ∙ n) at q
-
-pub repeat_turn : (row : List ℕ) (f : Fields) (k : ℕ) → repeated (drop k (fields row)) ≡ repeated (drop 1 (fields row))
-    → Split row f → f.count ≤ most_fields → k < f.count
-    → (d : Bool) → d ≡ among (field row k) (drop (k + 1) (fields row)) → d ≡ false
-    → repeated (drop (k + 1) (fields row)) ≡ repeated (drop 1 (fields row))
-unfolding repeated
-repeat_turn row f k q s m h d t n = rw (fields_here row f k s m h, sym t ∙ n) at q
-
-pub repeat_over : (row : List ℕ) (f : Fields) (k : ℕ) → repeated (drop k (fields row)) ≡ repeated (drop 1 (fields row))
-    → Split row f → f.count ≤ most_fields → f.count ≤ k → false ≡ repeated (drop 1 (fields row))
-unfolding repeated
-repeat_over row f k q s m h = rw (fields-past row f k s m h) at q
+  pub some_again : (k n : ℕ) → f.count - k ≡ n
+      → list_any (λ j. among (field row j) (drop (j + 1) (fields row))) (range_with_len k n) ≡ repeated (drop k (fields row))
+  unfolding repeated
+  some_again k zero h = rw (fields-past row f k s m (omega arith))
+  some_again k (suc n) h =
+      rw (fields_here row f k s m (omega arith))
+      (ap (λ b. among (field row k) (drop (k + 1) (fields row)) || b) (some_again (k + 1) n (omega arith)))
 
 -- The set that the marks say: what was added so far, below the next bit, and what the marks from a place on add.
 pub record Sums (row : List ℕ) (set bit k : ℕ) : Type 0 where

@@ -1,5 +1,4 @@
--- Laws of names: where a run of name bytes ends, what makes a name, and where a name stands among others, as the loops over
--- them meet it.
+-- Laws of names: what makes a name, the name at an offset of a text, and what makes a mark.
 -- Assumes nothing.
 use Rattle.std.specs.Prelude.{ℕ, suc, ◌+◌, ◌-◌, ◌≤◌, ◌<◌, ◌≡◌, refl, Bool, true, false, not, ◌&&◌, List, [], ◌∷◌, length, get_or, take, drop, eqb, leb}
 use Rattle.std.proofs.Common.{sym, ap, ◌∙◌, inl, inr, length-drop, arith}
@@ -15,33 +14,11 @@ use Rattle.basics.specs.Left.{drop_here, drop-end}
 use Rattle.fields.specs.Places.{ToldAt, place_from}
 use Rattle.fields.specs.PlacesLaws.{told_at}
 
--- the longest part at the start whose members pass a test: at none, at one that passes, at one that does not
-run_stops : (p : ℕ → Bool) (s : List ℕ) (i : ℕ) → i < length s → p (get_or s i 0) ≡ false → take_while p (drop i s) ≡ []
-unfolding take_while
-run_stops p s i h e = rw (drop_here s i h, e, take_while)
-
+-- the longest part at the start whose members pass a test: at one that passes
 run_goes_on : (p : ℕ → Bool) (s : List ℕ) (i : ℕ) → i < length s → p (get_or s i 0) ≡ true
     → take_while p (drop i s) ≡ get_or s i 0 ∷ take_while p (drop (i + 1) s)
 unfolding take_while
 run_goes_on p s i h e = rw (drop_here s i h, e, take_while)
-
-run_over : (p : ℕ → Bool) (s : List ℕ) (i : ℕ) → length s ≤ i → take_while p (drop i s) ≡ []
-unfolding take_while
-run_over p s i h = rw (drop-end s i h)
-
--- The turns of the loop that looks for a name's end, from the place `at` on.
-pub name_end_found : (s : List ℕ) (at i : ℕ) → i + length (take_while is_name_byte (drop i s)) ≡ at + length (take_while is_name_byte (drop at s))
-    → i < length s → (d : Bool) → d ≡ is_name_byte (get_or s i 0) → not d ≡ true → i ≡ at + length (take_while is_name_byte (drop at s))
-name_end_found s at i q h d e n = let z = rw (run_stops is_name_byte s i h (sym e ∙ not-true d n)) at q in omega arith
-
-pub name_end_turn : (s : List ℕ) (at i : ℕ) → i + length (take_while is_name_byte (drop i s)) ≡ at + length (take_while is_name_byte (drop at s))
-    → i < length s → (d : Bool) → d ≡ is_name_byte (get_or s i 0) → not d ≡ false
-    → i + 1 + length (take_while is_name_byte (drop (i + 1) s)) ≡ at + length (take_while is_name_byte (drop at s))
-name_end_turn s at i q h d e n = let z = rw (run_goes_on is_name_byte s i h (sym e ∙ not-false d n)) at q in omega arith
-
-pub name_end_over : (s : List ℕ) (at i : ℕ) → i + length (take_while is_name_byte (drop i s)) ≡ at + length (take_while is_name_byte (drop at s))
-    → length s ≤ i → i ≡ at + length (take_while is_name_byte (drop at s))
-name_end_over s at i q h = let z = rw (run_over is_name_byte s i h) at q in omega arith
 
 -- a run passes everywhere if it is the whole
 run_all : (p : ℕ → Bool) (t : List ℕ) → eqb (length (take_while p t)) (length t) ≡ every p t
@@ -133,9 +110,9 @@ module _ (s : List ℕ) (at : ℕ) where
       rw (name_some s at h (sym e ∙ not-false d n)) (told_at s (name_at s at) at (end - at) (omega arith) (there_bytes s at end d h e n q))
 
 -- A mark is `0` or `1`.
-pub mark_zero : (f : List ℕ) (d : Bool) → d ≡ equal f (zero_byte ∷ []) → d ≡ true → true ≡ is_mark f
+pub mark_zero : (f : List ℕ) (d : Bool) → d ≡ equal f (zero_byte ∷ []) → d ≡ true → d ≡ is_mark f
 unfolding is_mark
-mark_zero f d e t = rw (sym e ∙ t)
+mark_zero f d e t = rw (sym e ∙ t) t
 
 pub mark_one : (f : List ℕ) (d x : Bool) → d ≡ equal f (zero_byte ∷ []) → d ≡ false → x ≡ equal f (one_byte ∷ []) → x ≡ is_mark f
 unfolding is_mark

@@ -1,4 +1,4 @@
-// What can come next (document 01, "The table"): the sets of numbers that the events lead to from a set. Above `sets`.
+// What can come next (document 01, "The table"): the sets of numbers that the events lead to from a set. Above `bits`.
 
 #![tactic(auto)]
 
@@ -12,11 +12,11 @@ use limits::{MOST_EVENTS, NUMBERS};
 fn nexts(after: &[u32; NUMBERS], set: u32) -> u32
     ensures { result ≡ nexts_of after.now set (suc most_names) }
 {
-    let mut found = 0u32;
-    let mut k: usize = 0;
-    while k < NUMBERS {
-        found = found | sets::choose(sets::has(set, k), after[k], 0);
-        k += 1;
+    let mut found = 0;
+    for k in 0..NUMBERS {
+        if bits::has(u64::from(set), k) {
+            found |= after[k];
+        }
     }
     found
 }
@@ -31,11 +31,5 @@ pub fn moves(
     ensures { result ≡ moves_of after.now named.now base set }
 {
     let reach = nexts(after, set);
-    let mut to = [0u32; MOST_EVENTS];
-    let mut e: usize = 0;
-    while e < MOST_EVENTS {
-        to[e] = reach & named[e] | base;
-        e += 1;
-    }
-    to
+    named.map(|name| reach & name | base)
 }

@@ -3,80 +3,63 @@
 
 #![tactic(auto)]
 
-ghost use Rattle.std.specs.Prelude.{◌≡◌, ◌+◌, ◌<◌, ◌≤◌, length};
+ghost use Rattle.std.specs.Prelude.{◌≡◌, ◌+◌, ◌≤◌, length};
 ghost use Rattle.document.specs.Lists.{among};
+ghost use Rattle.document.specs.Combinations.{precedes};
 ghost use Rattle.document.specs.Limits.{width, seen_stride, kept_stride};
-ghost use Rattle.document.specs.Tables.{seen_rows};
+ghost use Rattle.document.specs.Tables.{numbers_at, seen_rows};
 ghost use Rattle.ordered.specs.Rows.{Searchable, Parted, SeenInOrder};
-ghost use Rattle.ordered.specs.Writes.{Raised, Pasted, SeenInserted, Put, Inserted, ZeroIn};
+ghost use Rattle.ordered.specs.Writes.{SeenInserted, Put, Inserted, ZeroIn};
 
 use limits::{Combination, KEPT_STRIDE, SEEN_STRIDE, WIDTH};
 
 // Rows in order ---------------------------------------------------------------------------------------------------------
 
-// The first of n rows, the first of which begins at `base`, that does not precede c; or n.
-pub fn place(t: &[u32], base: usize, stride: usize, n: usize, c: Combination) -> usize
-    requires { Searchable base stride n t.now }
-    ensures { Parted base stride n t.now c result }
+// The first of n rows of N numbers, the first of which begins at `base`, that does not precede c; or n.
+pub fn place<const N: usize>(t: &[u32], base: usize, n: usize, c: Combination) -> usize
+    requires { Searchable base N n t.now }
+    ensures { Parted base N n t.now c result }
 {
-    let mut low: usize = 0;
-    let mut high = n;
-    while low < high {
-        let middle = low + (high - low) / 2;
-        if combos::precedes(bound::row_at(t, base + middle * stride), c) {
-            low = middle + 1;
-        } else {
-            high = middle;
-        }
+    // With no row in the table, nothing says that so long a row fits in memory.
+    if n == 0 {
+        return 0;
     }
-    low
+    let (rows, _) = t[base..].as_chunks::<N>();
+    rows[..n].partition_point(
+        |row|
+            requires { width ≤ N }
+            ensures { result ≡ precedes (numbers_at width row.now 0) c }
+        { combos::precedes(bound::row_at(row, 0), c) },
+    )
 }
 
-// Whether one of the first n seen rows is c.
-pub fn seen_holds(seen: &[u32], n: usize, c: Combination) -> bool
-    requires { SeenInOrder n seen.now }
-    ensures { result ≡ among c (seen_rows n seen.now) }
-{
-    let at = place(seen, 0, SEEN_STRIDE, n, c);
-    if n <= at {
-        return false;
+// The seen rows of a lent table: so many of its first rows, in order.
+#[derive(Clone, Copy)]
+pub struct Seen<'a> {
+    pub numbers: &'a [u32],
+    pub count: usize,
+    ghost in_order: { SeenInOrder count numbers.now },
+}
+
+impl Seen<'_> {
+    // Whether one of them is c.
+    pub fn holds(self, c: Combination) -> bool
+        ensures { result ≡ among c (seen_rows self.entry.count self.entry.numbers.now) }
+    {
+        let at = place::<SEEN_STRIDE>(self.numbers, 0, self.count, c);
+        at < self.count && c == bound::row_at(self.numbers, at * SEEN_STRIDE)
     }
-    combos::equal(c, bound::row_at(seen, at * SEEN_STRIDE))
 }
 
 // Rows written ----------------------------------------------------------------------------------------------------------
-
-// Moves the numbers from place a up to n up by some places.
-fn raise(t: &mut [u32], a: usize, n: usize, by: usize)
-    requires { (a ≤ n) × (0 < by) × (n + by ≤ length t.old) }
-    ensures { Raised by a n t.old t.new }
-{
-    let mut p = n;
-    while a < p {
-        p -= 1;
-        t[p + by] = t[p];
-    }
-}
-
-// Writes a combination from a place on.
-fn write(t: &mut [u32], at: usize, c: Combination)
-    requires { at + width ≤ length t.old }
-    ensures { Pasted width at c t.old t.new }
-{
-    let mut j: usize = 0;
-    while j < WIDTH {
-        t[at + j] = c[j];
-        j += 1;
-    }
-}
 
 // Puts a seen row in at a place of the first n numbers; those from there on move up.
 pub fn insert_seen(t: &mut [u32], n: usize, at: usize, c: Combination)
     requires { (at ≤ n) × (n + seen_stride ≤ length t.old) }
     ensures { SeenInserted at n c t.old t.new }
 {
-    raise(t, at, n, SEEN_STRIDE);
-    write(t, at, c);
+    t.copy_within(at..n, at + SEEN_STRIDE);
+    t[at..at + WIDTH].copy_from_slice(&c);
 }
 
 // Writes a combination and a number after it from a place on.
@@ -84,7 +67,7 @@ pub fn write_kept(t: &mut [u32], at: usize, c: Combination, s: u32)
     requires { at + kept_stride ≤ length t.old }
     ensures { Put at c s t.old t.new }
 {
-    write(t, at, c);
+    t[at..at + WIDTH].copy_from_slice(&c);
     t[at + WIDTH] = s;
 }
 
@@ -93,7 +76,7 @@ pub fn insert_kept(t: &mut [u32], n: usize, at: usize, c: Combination, s: u32)
     requires { (at ≤ n) × (n + kept_stride ≤ length t.old) }
     ensures { Inserted at n c s t.old t.new }
 {
-    raise(t, at, n, KEPT_STRIDE);
+    t.copy_within(at..n, at + KEPT_STRIDE);
     write_kept(t, at, c, s);
 }
 
@@ -102,9 +85,5 @@ pub fn clear(t: &mut [u32], from: usize, to: usize)
     requires { to ≤ length t.old }
     ensures { ZeroIn from to t.old t.new }
 {
-    let mut p = from;
-    while p < to {
-        t[p] = 0;
-        p += 1;
-    }
+    t[from.min(to)..to].fill(0);
 }

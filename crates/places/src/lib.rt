@@ -3,33 +3,36 @@
 
 #![tactic(auto)]
 
-ghost use Rattle.std.specs.Prelude.{◌≡◌, ◌≤◌};
-ghost use Rattle.document.specs.Lists.{place_of};
+ghost use Rattle.std.specs.Prelude.{◌≤◌};
 ghost use Rattle.document.specs.Limits.{most_events};
-ghost use Rattle.places.specs.NamesAt.{names_at, Inside};
+ghost use Rattle.places.specs.NamesAt.{names_at, Inside, FoundAs};
 
-use limits::Places;
+use fields::Part;
+use limits::MOST_EVENTS;
 
-// Where a name stands first among those at the first places of the text, or their number where it is none of them.
-// `same` compares lengths before bytes, so that most names cost one comparison.
-pub fn find<'a, 'b, 'c>(
-    text: &'a [u8],
-    starts: &'b Places,
-    sizes: &'b Places,
-    count: usize,
-    name: &'c [u8],
-) -> usize
-    requires { Inside text.now starts.now sizes.now × (count ≤ most_events) }
-    ensures { result ≡ place_of name.now (names_at text.now count starts.now sizes.now) }
-{
-    let mut k: usize = 0;
-    while k < count {
-        let start = starts[k];
-        let end = start + sizes[k];
-        if fields::same(name, &text[start..end]) {
-            return k;
+// Where the names of events stand in a text: of each event its part.
+pub type Places = [Part; MOST_EVENTS];
+
+// The names that stand at the first places of a text.
+#[derive(Clone, Copy)]
+pub struct Names<'a> {
+    pub text: &'a [u8],
+    pub places: &'a Places,
+    pub count: usize,
+    ghost inside: { Inside text.now places.now },
+    ghost few: { count ≤ most_events },
+}
+
+impl Names<'_> {
+    // Where a name stands first among them.
+    pub fn find(&self, name: &[u8]) -> Option<usize>
+        ensures { FoundAs name.now (names_at self.now.text.now self.now.count self.now.places.now) self.now.count result }
+    {
+        for k in 0..self.count {
+            if name == self.places[k].of(self.text) {
+                return Some(k);
+            }
         }
-        k += 1;
+        None
     }
-    k
 }

@@ -1,22 +1,20 @@
 -- Rows on the way: the start, the turns and the returns of the loop over them.
 -- Assumes nothing.
-use Rattle.std.specs.Prelude.{ℕ, suc, ◌+◌, ◌-◌, ◌≤◌, ◌<◌, ◌≡◌, refl, Bool, true, false, not}
+use Rattle.std.specs.Prelude.{ℕ, suc, ◌+◌, ◌-◌, ◌≤◌, ◌<◌, ◌≡◌, refl, Bool, true, false}
 use Rattle.std.proofs.Common.{sym, ◌∙◌}
 use Rattle.std.proofs.Math.Path.{ap, subst}
 use mathlib.Core.List.{List, [], ◌++◌, append_assoc, append-nil}
 use native.Mathlib.Omega.{arith}
 use Rattle.std.proofs.Math.ListN.{length}
-use Rattle.std.proofs.lemmas.Bool.{not-true, not-false}
 use Rattle.document.specs.Refusals.{Answer, taken, refused}
 use Rattle.document.specs.Declarations.{Declared}
 use Rattle.document.specs.Property.{Property, in_range}
 use Rattle.document.specs.Session.{Session, Happened, sound, leaves}
 use Rattle.document.specs.Log.{step_row, row_at, next_at, agrees}
 use Rattle.rows.specs.TextLaws.{next-later}
-use Rattle.entries.specs.Entries.{declared_at}
 use Rattle.judge.specs.Sound.{session_of}
 use Rattle.decimals.specs.WrittenLaws.{written_none, written_then, written-length}
-use Rattle.moves.specs.declared.Known.{Known}
+use Rattle.judging.specs.declared.Judged.{Judged}
 use Rattle.runs.specs.PrintPart.{row_text, PrintedTo, nothing_printed, lines_first}
 use Rattle.runs.specs.SoundRuns.{row-sound}
 use Rattle.turns.specs.Stepping.{row_step_by, RowGoes, read_as, Sure}
@@ -91,10 +89,10 @@ module _ (d : Declared) (p : Property) (log : List ℕ) (whole : PrintedTo) (tex
   pub way_ended : length log ≤ r.next → PrintLeaves 0 whole text₀ r seen kept reports text
   way_ended h = done (rows_ended d p log g.turns r.next r.number s₀ reports (length text₀) r.filled h)
 
-  pub way_full : (f : Bool) → r.next < length log → f ≡ fits_row (length text) r.filled r.kept r.number → not f ≡ true
+  pub way_full : (f : Bool) → r.next < length log → f ≡ fits_row (length text) r.filled r.kept r.number → f ≡ false
       → PrintLeaves 0 whole text₀ r seen kept reports text
   way_full f h q z =
-      done (rows_full d p log g.turns r.next r.number s₀ reports (length text₀) r.filled h (rw room_same at (sym q ∙ not-true f z)))
+      done (rows_full d p log g.turns r.next r.number s₀ reports (length text₀) r.filled h (rw room_same at (sym q ∙ z)))
 
   module _ (range : in_range p ≡ true) (agree : agrees d p ≡ true) (l : r.next < length log)
       (f : fits_row (length text) r.filled r.kept r.number ≡ true) (r' : Printed) (seen' kept' reports' text' : List ℕ)
@@ -134,22 +132,21 @@ module _ (d : Declared) (p : Property) (log : List ℕ) (whole : PrintedTo) (tex
               ∙ on ∙ ap (lines_first g.lines) (sym here) ∙ (rw t at g.left);
         }
 
--- Over what was worked out once ------------------------------------------------------------------------------------------
+-- Over what the call goes by ---------------------------------------------------------------------------------------------
 
-module _ (text starts sizes sets : List ℕ) (p : Property) (k : Known) (w : Sure text starts sizes sets p k) (log : List ℕ) (whole : PrintedTo) (lent₀ : List ℕ) (r : Printed) (seen kept reports lent : List ℕ)
-    (g : OnTheWay (read_as text starts sizes sets p k) p log whole lent₀ r seen kept reports lent) where
-  module _ (next verdicts : List ℕ) (en : next ≡ p.next) (ev : verdicts ≡ p.verdicts) where
-    pub way_goes : RowGoes text starts sizes p.events k.parameters next k.states r.seen r.kept seen kept
-    way_goes = rw en (row_goes text starts sizes sets p k w r.seen r.kept seen kept g.sound)
+module _ (p : Property) (c : Judged) (w : Sure p c) (log : List ℕ) (whole : PrintedTo) (lent₀ : List ℕ) (r : Printed) (seen kept reports lent : List ℕ)
+    (g : OnTheWay (read_as c) p log whole lent₀ r seen kept reports lent) where
+  pub way_goes : RowGoes c r.seen r.kept seen kept
+  way_goes = row_goes p c w r.seen r.kept seen kept g.sound
 
-    pub way_on : (f : Bool) → r.next < length log → f ≡ fits_row (length lent) r.filled r.kept r.number → not f ≡ false
-        → (r' : Printed) (seen' kept' reports' lent' : List ℕ)
-        → RowPrinted (row_step_by next verdicts k.hopeful k.asked 0 (declared_at text starts sizes sets p.events k.parameters) (session_of r.seen r.kept seen kept) reports (row_at log r.next)) k.parameters log seen kept reports lent r r' seen' kept' reports' lent'
-        → OnTheWay (read_as text starts sizes sets p k) p log whole lent₀ r' seen' kept' reports' lent'
-    way_on f l q z r' seen' kept' reports' lent' v =
-        way_turn (read_as text starts sizes sets p k) p log whole lent₀ r seen kept reports lent g w.range w.agree l (sym q ∙ not-false f z) r' seen' kept' reports' lent'
-        (subst (λ (m : ℕ). RowPrinted (step_row 0 (read_as text starts sizes sets p k) p (session_of r.seen r.kept seen kept) reports (row_at log r.next)) m log seen kept reports lent r r' seen' kept' reports' lent') w.known.parameters
-        (rw (row_step_same text starts sizes sets p k w r.seen r.kept seen kept reports (row_at log r.next) 0 g.sound) at (rw (en, ev) at v)))
+  pub way_on : (f : Bool) → r.next < length log → f ≡ fits_row (length lent) r.filled r.kept r.number → f ≡ true
+      → (r' : Printed) (seen' kept' reports' lent' : List ℕ)
+      → RowPrinted (row_step_by c 0 (session_of r.seen r.kept seen kept) reports (row_at log r.next)) c.reading.parameters log seen kept reports lent r r' seen' kept' reports' lent'
+      → OnTheWay (read_as c) p log whole lent₀ r' seen' kept' reports' lent'
+  way_on f l q z r' seen' kept' reports' lent' v =
+      way_turn (read_as c) p log whole lent₀ r seen kept reports lent g w.range w.agree l (sym q ∙ z) r' seen' kept' reports' lent'
+      (subst (λ (m : ℕ). RowPrinted (step_row 0 (read_as c) p (session_of r.seen r.kept seen kept) reports (row_at log r.next)) m log seen kept reports lent r r' seen' kept' reports' lent') w.parameters
+      (rw (row_step_same p c w r.seen r.kept seen kept reports (row_at log r.next) 0 g.sound) at v))
 
 -- each row brings the offset on
 pub way_less : (a : Answer Happened) (parameters : ℕ) (log seen kept reports text : List ℕ) (r r' : Printed) (seen' kept' reports' text' : List ℕ)

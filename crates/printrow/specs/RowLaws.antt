@@ -1,16 +1,14 @@
 -- One row: the room that its lines ask, and what it leaves.
 -- Assumes nothing.
-use Rattle.std.specs.Prelude.{ℕ, ◌+◌, ◌-◌, ◌*◌, ◌^◌, ◌≤◌, ◌<◌, ◌≡◌, Bool, true, false, not, List, length, take, drop, leb, ltb}
+use Rattle.std.specs.Prelude.{ℕ, ◌+◌, ◌-◌, ◌*◌, ◌^◌, ◌≤◌, ◌<◌, ◌≡◌, Bool, true, List, length, take, drop, leb, ltb}
 use Rattle.std.proofs.Math.Path.{refl, ap}
 use Rattle.std.proofs.Common.{sym, ◌∙◌, ne_eqb, leb-true, ltb-true}
 use native.Mathlib.Omega.{arith}
-use Rattle.std.proofs.lemmas.Bool.{not-false}
 use Rattle.document.specs.Limits.{width}
 use Rattle.document.specs.Refusals.{number, Answer, taken, refused}
 use Rattle.document.specs.RefusalsLaws.{number-some}
 use Rattle.document.specs.Rows.{first_row}
 use Rattle.document.specs.Tables.{kept_rows}
-use Rattle.document.specs.Declarations.{Declared}
 use Rattle.document.specs.Session.{Session, Happened, seen_of, kept_of, leaves}
 use Rattle.document.specs.Log.{row_event, row_at, next_at}
 use Rattle.basics.specs.Lists.{length-tabulate}
@@ -25,7 +23,8 @@ use Rattle.lineparts.specs.LinesLaws.{refused_line_number}
 use Rattle.moves.specs.Steps.{step_of, state_in, outcome_by}
 use Rattle.steps.specs.declared.Answered.{Answered}
 use Rattle.steps.specs.Steps.{step_by, answered, Leaves}
-use Rattle.turns.specs.Stepping.{row_step_by}
+use Rattle.judging.specs.declared.Judged.{Judged}
+use Rattle.turns.specs.Stepping.{row_step_by, read_as}
 use Rattle.turns.specs.TurnsLaws.{row_is, step_made, row_room}
 use Rattle.printrow.specs.declared.Printed.{Printed}
 use Rattle.rowlines.specs.RowLines.{most_lines, fits_row, answer_text, TextFits}
@@ -33,10 +32,10 @@ use Rattle.rowlines.specs.RowLinesLaws.{lines_enough}
 use Rattle.printrow.specs.RowPrints.{row_text_by, RowFits, RowPrinted}
 
 pub row_fits_lem : (r : Printed) (log text : List ℕ) (f : Bool) → r.next < length log → f ≡ fits_row (length text) r.filled r.kept r.number
-    → not f ≡ false → RowFits r log text
+    → f ≡ true → RowFits r log text
 unfolding fits_row
 row_fits_lem r log text f h q z =
-    let t : fits_row (length text) r.filled r.kept r.number ≡ true = sym q ∙ not-false f z in
+    let t : fits_row (length text) r.filled r.kept r.number ≡ true = sym q ∙ z in
     let a = and_of (ltb (r.number + 1) (2 ^ 64)) (leb (r.filled + most_lines r.kept * most_line) (length text)) (so t) in
     record {
       row = h;
@@ -55,18 +54,19 @@ step_few next verdicts hopes asks from s reports e b h q =
     let k : length (kept_of s) ≡ s.kept_count = length-tabulate s.kept_count _ in
     omega arith
 
-row_few : (next verdicts : List ℕ) (hopes asks from : ℕ) (d : Declared) (s : Session) (reports row : List ℕ) (h : Happened)
-    → row_step_by next verdicts hopes asks from d s reports row ≡ taken h → h.reported ≤ s.kept_count
+row_few : (c : Judged) (from : ℕ) (s : Session) (reports row : List ℕ) (h : Happened)
+    → row_step_by c from s reports row ≡ taken h → h.reported ≤ s.kept_count
 unfolding row_step_by
-row_few next verdicts hopes asks from d s reports row h q =
-    let c = past_call (row_event d row) (λ v. step_by next verdicts hopes asks from s reports v.event v.values) h q in
-    step_few next verdicts hopes asks from s reports c.0.event c.0.values h c.2
+row_few c from s reports row h q =
+    let k = c.known in
+    let w = past_call (row_event (read_as c) row) (λ v. step_by k.next k.verdicts k.hopeful k.asked from s reports v.event v.values) h q in
+    step_few k.next k.verdicts k.hopeful k.asked from s reports w.0.event w.0.values h w.2
 
 -- The row ----------------------------------------------------------------------------------------------------------------
 
-module _ (next verdicts : List ℕ) (hopes asks parameters : ℕ) (d : Declared) (r : Printed) (log text seen kept reports : List ℕ) (o : RowFits r log text)
+module _ (c : Judged) (parameters : ℕ) (r : Printed) (log text seen kept reports : List ℕ) (o : RowFits r log text)
     (end : ℕ) (qe : end ≡ r.next + length (first_row (drop r.next log))) (x : Answered) (seen' kept' reports' : List ℕ)
-    (v : Leaves (row_step_by next verdicts hopes asks 0 d (session_of r.seen r.kept seen kept) reports (take (end - r.next) (drop r.next log))) (session_of r.seen r.kept seen kept) reports x seen' kept' reports') where
+    (v : Leaves (row_step_by c 0 (session_of r.seen r.kept seen kept) reports (take (end - r.next) (drop r.next log))) (session_of r.seen r.kept seen kept) reports x seen' kept' reports') where
   abbrev s₀ : Session
   s₀ = session_of r.seen r.kept seen kept
 
@@ -75,9 +75,9 @@ module _ (next verdicts : List ℕ) (hopes asks parameters : ℕ) (d : Declared)
 
   pub text_fits : parameters ≤ width → length reports' ≡ length reports → TextFits r.filled parameters text reports' x
   unfolding answered leaves
-  text_fits few same = go (row_step_by next verdicts hopes asks 0 d s₀ reports bytes) refl v
+  text_fits few same = go (row_step_by c 0 s₀ reports bytes) refl v
     where
-      go : (a : Answer Happened) → row_step_by next verdicts hopes asks 0 d s₀ reports bytes ≡ a → Leaves a s₀ reports x seen' kept' reports'
+      go : (a : Answer Happened) → row_step_by c 0 s₀ reports bytes ≡ a → Leaves a s₀ reports x seen' kept' reports'
           → TextFits r.filled parameters text reports' x
       go (refused q i) e u =
           let z : x.reported ≡ 0 = ap (λ (y : Answered). y.reported) u.says in
@@ -87,8 +87,8 @@ module _ (next verdicts : List ℕ) (hopes asks parameters : ℕ) (d : Declared)
           record { few = few; line = omega arith; lines = rw z (omega arith); inside = rw z (omega arith) }
       go (taken h) e u =
           let z : x.reported ≡ h.reported = ap (λ (y : Answered). y.reported) u.says in
-          let i = row_room next verdicts hopes asks 0 d s₀ reports bytes h (omega arith) e in
-          let j = row_few next verdicts hopes asks 0 d s₀ reports bytes h e in
+          let i = row_room c 0 s₀ reports bytes h (omega arith) e in
+          let j = row_few c 0 s₀ reports bytes h e in
           let k = lines_enough r.kept in
           let k₀ = k.0 in
           let k₁ = k.1 in
@@ -96,9 +96,9 @@ module _ (next verdicts : List ℕ) (hopes asks parameters : ℕ) (d : Declared)
           record { few = few; line = omega arith; lines = rw z (omega arith); inside = rw z (omega arith) }
 
   -- its lines, by the step's answer
-  text_same : (n : ℕ) → answer_text parameters n reports' x ≡ row_text_by parameters n (row_step_by next verdicts hopes asks 0 d s₀ reports bytes)
+  text_same : (n : ℕ) → answer_text parameters n reports' x ≡ row_text_by parameters n (row_step_by c 0 s₀ reports bytes)
   unfolding answer_text answered leaves
-  text_same n = go (row_step_by next verdicts hopes asks 0 d s₀ reports bytes) v
+  text_same n = go (row_step_by c 0 s₀ reports bytes) v
     where
       go : (a : Answer Happened) → Leaves a s₀ reports x seen' kept' reports' → answer_text parameters n reports' x ≡ row_text_by parameters n a
       go (taken h) u =
@@ -115,7 +115,7 @@ module _ (next verdicts : List ℕ) (hopes asks parameters : ℕ) (d : Declared)
       → Written r.filled (length (answer_text parameters r.number reports' x)) (answer_text parameters r.number reports' x) text text' filled
       → after ≡ next_at log end
       → (r' : Printed) → r' ≡ record { refusal = 0; next = after; number = r.number + 1; seen = x.seen; kept = x.kept; filled = filled }
-      → RowPrinted (row_step_by next verdicts hopes asks 0 d (session_of r.seen r.kept seen kept) reports (row_at log r.next)) parameters log seen kept reports text r r' seen' kept' reports' text'
+      → RowPrinted (row_step_by c 0 (session_of r.seen r.kept seen kept) reports (row_at log r.next)) parameters log seen kept reports text r r' seen' kept' reports' text'
   unfolding answered
   row-printed text' filled after w qn r' q =
       let e₁ = ap (λ (y : Answered). y.seen) v.says in

@@ -32,6 +32,9 @@ sets_fit sets events parameters = every_below events (λ e. ltb (get_or sets e 0
 unfoldable pub row_fits : List ℕ → ℕ → ℕ → ℕ → Bool
 row_fits next events states s = every_below events (λ e. ltb (get_or next (s * most_events + e) 0) states)
 
+abbrev pub row_passes : document.Property → ℕ → Bool
+row_passes p s = leb (get_or p.verdicts s 0) 2 && row_fits p.next p.events p.states s
+
 unfoldable pub rows_fit : List ℕ → List ℕ → ℕ → ℕ → ℕ → Bool
 rows_fit next verdicts events states n = every_below n (λ s. leb (get_or verdicts s 0) 2 && row_fits next events states s)
 

@@ -1,20 +1,22 @@
 // The property table as a plain value, and its check, refusal 11 (document 01, "The table"). The face: `Property` and `in_range`.
 //
-//     A table is taken exactly if `in_range` holds of it; its numbers may be any.
+//     A table is taken exactly if `in_range` holds of it; its numbers may be any. `taken` gives it as one that is.
 
 #![tactic(auto)]
 
-ghost use Rattle.std.specs.Prelude.{◌≡◌, ◌&&◌, ◌≤◌, ◌<◌, leb};
+ghost use Rattle.std.specs.Prelude.{◌≡◌, ◌≤◌, ◌<◌, ltb};
+ghost use Rattle.std.specs.List.{list_all, range_with_len};
 ghost use Rattle.document.specs.Limits.{width, most_events, most_states};
 ghost use Rattle.document.specs.Property.{in_range};
-ghost use Rattle.property.specs.Meaning.{meaning, counts_fit, sets_fit, row_fits, rows_fit};
+ghost use Rattle.property.specs.Meaning.{meaning, counts_fit, sets_fit, row_fits, row_passes};
 
 use limits::{EventSets, MOST_EVENTS, MOST_STATES, Transitions, Verdicts, WIDTH};
+pub use taken::Taken;
+use verdicts::{ALL_ASKED, Verdict};
 
-// The verdicts are 0 undecided, 1 match, 2 fail; those asked for are a set: bit 0 for match, bit 1 for fail.
-pub const LAST_VERDICT: u8 = 2;
+mod taken;
 
-const ALL_VERDICTS: usize = 3;
+const LAST_VERDICT: u8 = Verdict::Fail as u8;
 
 // Counts, the parameters that each event binds (bit k for parameter k), the state that event e leads to from state s (at
 // s * 16 + e), the verdict of each state, and the verdicts asked for. Entries past the counts mean nothing.
@@ -30,85 +32,49 @@ pub struct Property {
     pub verdicts: Verdicts,
 }
 
-pub fn wide(x: u8) -> usize
-    ensures { result ≡ x }
+// Whether each of some numbers is below a bound.
+fn all_below(numbers: &[u8], bound: usize) -> bool
+    ensures { result ≡ list_all (λ x. ltb x bound) numbers.now }
 {
-    x as usize
+    numbers.iter().all(|&x| usize::from(x) < bound)
 }
 
-// Whether a number lies from one number to another.
-fn between(low: usize, high: usize, x: usize) -> bool
-    ensures { result ≡ leb low x && leb x high }
-{
-    if x < low {
-        return false;
+impl Property {
+    // Whether the counts and the set of verdicts asked for are within their ranges.
+    #[tactic(auto, unfolding(crate::specs::Meaning::counts_fit))]
+    fn counts_fit(&self) -> bool
+        ensures { result ≡ counts_fit self.now.parameters self.now.events self.now.states self.now.asked }
+    {
+        self.parameters <= WIDTH
+            && (1..=MOST_EVENTS).contains(&self.events)
+            && (1..=MOST_STATES).contains(&self.states)
+            && (1..=ALL_ASKED).contains(&self.asked)
     }
-    x <= high
-}
 
-// Whether the counts and the set of verdicts asked for are within their ranges.
-fn counts_fit(parameters: usize, events: usize, states: usize, asked: u8) -> bool
-    ensures { result ≡ counts_fit parameters events states asked }
-{
-    if WIDTH < parameters {
-        return false;
+    // Whether each event binds declared parameters alone.
+    fn sets_fit(&self) -> bool
+        requires { (self.now.events ≤ most_events) × (self.now.parameters ≤ width) }
+        ensures { result ≡ sets_fit self.now.sets self.now.events self.now.parameters }
+    {
+        all_below(&self.sets[..self.events], 1 << self.parameters)
     }
-    if !between(1, MOST_EVENTS, events) {
-        return false;
-    }
-    if !between(1, MOST_STATES, states) {
-        return false;
-    }
-    between(1, ALL_VERDICTS, wide(asked))
-}
 
-// Whether each event binds declared parameters alone.
-fn sets_fit(sets: &EventSets, events: usize, parameters: usize) -> bool
-    requires { (events ≤ most_events) × (parameters ≤ width) }
-    ensures { result ≡ sets_fit sets.now events parameters }
-{
-    let bound = 1u8 << parameters;
-    let mut e = events;
-    while 0 < e {
-        e -= 1;
-        if bound <= sets[e] {
-            return false;
-        }
+    // Whether each event leads from state s to one of the states.
+    fn row_fits(&self, s: usize) -> bool
+        requires { (s < most_states) × (self.now.events ≤ most_events) }
+        ensures { result ≡ row_fits self.now.next self.now.events self.now.states s }
+    {
+        let row = s * MOST_EVENTS;
+        all_below(&self.next[row..row + self.events], self.states)
     }
-    true
-}
 
-// Whether each event leads from a state to one of the states.
-fn row_fits(next: &Transitions, s: usize, events: usize, states: usize) -> bool
-    requires { (s < most_states) × (events ≤ most_events) }
-    ensures { result ≡ row_fits next.now events states s }
-{
-    let mut e = events;
-    while 0 < e {
-        e -= 1;
-        if states <= wide(next[s * MOST_EVENTS + e]) {
-            return false;
-        }
+    // Whether each state has a verdict, and each event leads from it to one of the states.
+    fn rows_fit(&self) -> bool
+        requires { (self.now.states ≤ most_states) × (self.now.events ≤ most_events) }
+        ensures { result ≡ list_all (row_passes (meaning self.now)) (range_with_len 0 self.now.states) }
+    {
+        (0..self.states).all(|s| self.verdicts[s] <= LAST_VERDICT && self.row_fits(s))
     }
-    true
-}
-
-// Whether each state has a verdict, and each event leads from it to one of the states.
-fn rows_fit(next: &Transitions, verdicts: &Verdicts, events: usize, states: usize) -> bool
-    requires { (states ≤ most_states) × (events ≤ most_events) }
-    ensures { result ≡ rows_fit next.now verdicts.now events states states }
-{
-    let mut s = states;
-    while 0 < s {
-        s -= 1;
-        if LAST_VERDICT < verdicts[s] {
-            return false;
-        }
-        if !row_fits(next, s, events, states) {
-            return false;
-        }
-    }
-    true
 }
 
 // Whether every count, set, state and verdict is within its range and a verdict is asked for. Where not, the table is
@@ -116,14 +82,5 @@ fn rows_fit(next: &Transitions, verdicts: &Verdicts, events: usize, states: usiz
 pub fn in_range(p: Property) -> bool
     ensures { result ≡ in_range (meaning p) }
 {
-    if !counts_fit(p.parameters, p.events, p.states, p.asked) {
-        return false;
-    }
-    let sets = p.sets;
-    if !sets_fit(&sets, p.events, p.parameters) {
-        return false;
-    }
-    let next = p.next;
-    let verdicts = p.verdicts;
-    rows_fit(&next, &verdicts, p.events, p.states)
+    p.counts_fit() && p.sets_fit() && p.rows_fit()
 }

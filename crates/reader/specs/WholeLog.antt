@@ -1,12 +1,15 @@
 -- What a reader hands out, call after call, until it says that there is none: from the log's start, exactly the log's rows.
 -- Assumes nothing.
-use Rattle.std.specs.Prelude.{ℕ, zero, suc, ◌-◌, ◌≤◌, ◌<◌, ◌≡◌, Bool, true, false, List, [], ◌∷◌, length, drop, leb}
+use Rattle.std.specs.Prelude.{ℕ, zero, suc, ◌-◌, ◌≤◌, ◌<◌, ◌≡◌, Bool, true, false, Option, Some, None, List, [], ◌∷◌, length, drop, leb}
+use Rattle.std.specs.Iterator.{YieldsFirstRef, MakesProgress, item_count}
+use Rattle.std.specs.Borrow.{Bor}
 use Rattle.std.proofs.Common.{sym, ap, ap₂, ◌∙◌, inl, inr, arith, leb-true, leb-false}
 use Rattle.document.specs.Rows.{rows}
 use Rattle.document.specs.Log.{row_at, next_at}
 use Rattle.basics.specs.Tests.{decided}
 use Rattle.rows.specs.TextLaws.{next-later, rows_over, rows_next}
-use Rattle.reader.specs.Handing.{is_there, bytes_of, position_after, HandsOut}
+use Rattle.reader.specs.declared.Reader.{Reader}
+use Rattle.reader.specs.Handing.{is_there, bytes_of, position_after, HandsOut, Hands, rows_left}
 use Rattle.reader.specs.HandingLaws.{hands_none, hands_row}
 
 -- from a position on, calls of `hand_out` give these rows, one after another, and then say that there is none
@@ -72,3 +75,32 @@ hands_all log = hands_all_from log 0
 
 pub hands_only : (log : List ℕ) {l : List (List ℕ)} → HandsAll log 0 l → l ≡ rows log
 hands_only log = hands_only_from log 0
+
+-- so a reader yields the rows that it has left, one after another
+pub hands_first : (r r' : Reader) (x : Option (Bor (List ℕ))) → r'.log ≡ r.log → Hands r.log r.at x r'.at → YieldsFirstRef rows_left r x r'
+unfolding row_at
+hands_first r r' x e h = elim (decided (leb (length r.log.now) r.at)) [
+  | inl t ↦ over x (leb-true (length r.log.now) r.at t) h
+  | inr t ↦ on x (leb-false (length r.log.now) r.at t) h
+]
+  where
+    over : (x : Option (Bor (List ℕ))) → length r.log.now ≤ r.at → Hands r.log r.at x r'.at → YieldsFirstRef rows_left r x r'
+    over None k h =
+        let same = hands_single h (call_none r.log.now r.at k) in
+        let z = rows_over r.log.now r.at k in
+        (z, rw (e, same.1.1) z)
+    over (Some row) k h = absurd (differ (sym (hands_single h.0 (call_none r.log.now r.at k)).0))
+
+    on : (x : Option (Bor (List ℕ))) → r.at < length r.log.now → Hands r.log r.at x r'.at → YieldsFirstRef rows_left r x r'
+    on None k h = absurd (differ (hands_single h (call_row r.log.now r.at k)).0)
+    on (Some row) k h =
+        let same = hands_single h.0 (call_row r.log.now r.at k) in
+        rw (rows_next r.log.now r.at k, e, same.1.1, same.1.0)
+
+-- and each row that it yields leaves fewer
+pub hands_goes : (can : Reader → Type 0) → ((q : Reader) → can q) → (r r' : Reader) (x : Option (Bor (List ℕ))) → YieldsFirstRef rows_left r x r'
+    → MakesProgress can (item_count rows_left) r x r'
+hands_goes can free r r' None e = record { on = λ f. tt; keeps = tt; rests = λ f. tt }
+hands_goes can free r r' (Some row) e =
+    let shorter = ap length e in
+    record { on = λ f. (free r', tt, omega arith); keeps = free r'; rests = λ f. tt }

@@ -3,13 +3,14 @@
 // `hand_out` do nothing but take the struct apart. The face: `reader_at`, `hand_out`.
 //
 //     let mut r = reader_at(b"a,1\r\nb,2", 0);
-//     hand_out(&mut r) is the row `a,1`, then `b,2`, then none.
+//     hand_out(&mut r) is the row `a,1`, then `b,2`, then none; as an iterator, `r` yields these rows.
 
 #![tactic(auto)]
 
 ghost use Rattle.std.specs.Prelude.{◌≡◌, ◌-◌, take, drop};
-ghost use Rattle.fields.specs.Places.{PartAt, Lies, place_from};
-ghost use Rattle.reader.specs.Handing.{place_at, HandsOut};
+ghost use Rattle.fields.specs.Places.{PartAt, place_from};
+ghost use Rattle.reader.specs.Handing.{place_at, Hands, rows_left};
+ghost use Rattle.std.specs.Iterator.{YieldsFirstRef, item_count};
 
 // The log, and where its next row begins. Past the log's end there is none.
 #[derive(Drop)]
@@ -18,15 +19,8 @@ pub struct Reader<'a> {
     pub at: usize,
 }
 
-// A row that is handed out, as that part of the log, its line end left out; where there is none, the empty part at the
-// log's start.
-#[derive(Drop)]
-pub struct Row<'a> {
-    pub bytes: &'a [u8],
-    pub there: bool,
-}
-
 // Whether a row begins at a place of a log, where it ends, and where the one after it begins.
+// Stays: a struct of C, so a flag with its places beside it.
 #[repr(C)]
 #[derive(Clone, Copy)]
 pub struct Place {
@@ -59,36 +53,42 @@ pub fn place_at(log: &[u8], at: usize) -> Place
 pub fn part(log: &[u8], start: usize, end: usize) -> &[u8]
     ensures { PartAt log.entry (place_from start (take (end - start) (drop start log.now))) (take (end - start) (drop start log.now)) result }
 {
-    if end <= start {
-        return &log[0..0];
+    if end <= start || log.len() <= start {
+        return &log[..0];
     }
-    if log.len() <= start {
-        return &log[0..0];
-    }
-    if log.len() < end {
-        return &log[start..];
-    }
-    &log[start..end]
+    &log[start..end.min(log.len())]
 }
 
 // A reader whose first row begins at an offset of the log, any offset.
-pub fn reader_at<'a>(log: &'a [u8], at: usize) -> Reader<'a>
+pub fn reader_at(log: &[u8], at: usize) -> Reader<'_>
     ensures { (result.log ≡ log.entry) × (result.at ≡ at) }
 {
     Reader { log, at }
 }
 
-// Hands out the next row and moves on to the one after it, or says that there is none and stays.
-pub fn hand_out<'s, 'a>(r: &'s mut Reader<'a>) -> Row<'a>
-    ensures { (r.new.log ≡ r.old.log) × HandsOut r.old.log.now r.old.at result.there result.bytes.now r.new.at × Lies r.old.log (place_from r.old.at result.bytes.now) result.bytes }
+// Hands out the next row, as that part of the log, its line end left out, and moves on to the one after it; or says that there is
+// none and stays.
+pub fn hand_out<'a>(r: &mut Reader<'a>) -> Option<&'a [u8]>
+    ensures { (r.new.log ≡ r.old.log) × Hands r.old.log r.old.at result r.new.at }
 {
-    let log = r.log;
-    let at = r.at;
-    let place = place_at(log, at);
-    let bytes = part(log, at, place.end);
+    let place = place_at(r.log, r.at);
+    if !place.there {
+        return None;
+    }
+    let row = part(r.log, r.at, place.end);
     r.at = place.next;
-    Row {
-        bytes,
-        there: place.there,
+    Some(row)
+}
+
+// As an iterator, it yields the log's rows from its place on.
+impl<'a> Iterator for Reader<'a> {
+    type Item = &'a [u8];
+
+    ghost next_gives = { YieldsFirstRef rows_left };
+
+    ghost remaining = { item_count rows_left };
+
+    fn next(&mut self) -> Option<&'a [u8]> {
+        hand_out(self)
     }
 }

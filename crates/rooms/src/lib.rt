@@ -1,8 +1,8 @@
 // The rooms of lent tables (document 01, "One event").
 
-#![tactic(auto)]
+#![tactic(auto, unfolding(document::specs::Tables::seen_room, document::specs::Tables::kept_room))]
 
-ghost use Rattle.std.specs.Prelude.{◌≡◌, ◌*◌, ◌≤◌, length};
+ghost use Rattle.std.specs.Prelude.{◌≡◌, ◌*◌, ◌/◌, ◌<◌, ◌≤◌, min, length};
 ghost use Rattle.document.specs.Limits.{seen_stride, kept_stride};
 ghost use Rattle.document.specs.Tables.{seen_room, kept_room};
 
@@ -19,22 +19,21 @@ pub const SEEN_NUMBERS: usize = MOST_SEEN * SEEN_STRIDE;
 pub const KEPT_NUMBERS: usize = MOST_KEPT * KEPT_STRIDE;
 
 // "Room is the smaller of that limit and the whole rows lent".
+fn room(t: &[u32], stride: usize, most: usize) -> usize
+    requires { 0 < stride }
+    ensures { (result ≡ min most (length t.now / stride)) × (result * stride ≤ length t.now) }
+{
+    most.min(t.len() / stride)
+}
+
 pub fn seen_room(t: &[u32]) -> usize
     ensures { (result ≡ seen_room t.now) × (result * seen_stride ≤ length t.now) }
 {
-    let rows = t.len() / SEEN_STRIDE;
-    if MOST_SEEN <= rows {
-        return MOST_SEEN;
-    }
-    rows
+    room(t, SEEN_STRIDE, MOST_SEEN)
 }
 
 pub fn kept_room(t: &[u32]) -> usize
     ensures { (result ≡ kept_room t.now) × (result * kept_stride ≤ length t.now) }
 {
-    let rows = t.len() / KEPT_STRIDE;
-    if MOST_KEPT <= rows {
-        return MOST_KEPT;
-    }
-    rows
+    room(t, KEPT_STRIDE, MOST_KEPT)
 }

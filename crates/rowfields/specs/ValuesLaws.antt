@@ -1,13 +1,13 @@
 -- Laws of the loops over a row's bytes and values.
 -- Assumes nothing.
-use Rattle.std.specs.Prelude.{ℕ, zero, suc, ◌+◌, ◌≤◌, ◌<◌, min, ◌≡◌, refl, Bool, true, false, not, cond, ◌&&◌, List, [], ◌∷◌, ◌++◌, length, get_or, take, drop, set, replicate, eqb, ltb}
+use Rattle.std.specs.Prelude.{ℕ, zero, suc, ◌+◌, ◌≤◌, ◌<◌, min, ◌≡◌, refl, Bool, true, false, not, cond, ◌&&◌, Option, Some, None, List, [], ◌∷◌, ◌++◌, length, get_or, take, drop, set, replicate, eqb, ltb}
 use Rattle.std.proofs.Common.{sym, ap, ◌∙◌, inl, inr, length-set, length-append, length-take, drop_of_length-le, drop-cons, ext_get_or, get_or-take, get_or-set_same, get_or-set_other, arith, add-one, eq-eqb, ne_eqb, eqb-true, ltb-true, ltb-false}
 use mathlib.Core.List as list
 use Rattle.std.proofs.Math.ListN.{get_or-append}
 use Rattle.std.proofs.lemmas.Bool.{eqb-false}
 use Rattle.document.specs.Lists.{some, equal}
 use Rattle.document.specs.Limits.{width}
-use Rattle.document.specs.Classes.{cr, lf, quote, comma, zero_byte}
+use Rattle.document.specs.Classes.{comma}
 use Rattle.document.specs.Rows.{fields, value_of}
 use Rattle.document.specs.Log.{is_bad_value, values_of}
 use Rattle.basics.specs.Tests.{decided}
@@ -16,23 +16,6 @@ use Rattle.rowfields.specs.Said.{is_barred}
 use Rattle.basics.specs.Left.{some_over, some-found, some_goes_on}
 use Rattle.fields.specs.FieldsInTurn.{commas, commas_here, commas-later, commas_over, fields_count}
 
--- A byte that no row may hold.
-pub barred-cr : (b : ℕ) → b ≡ cr → true ≡ is_barred b
-barred-cr b e = rw e
-
-pub barred-lf : (b : ℕ) → b ≡ lf → true ≡ is_barred b
-barred-lf b e = rw e
-
-pub barred-quote : (b : ℕ) → (b ≡ cr → ⊥) → (b ≡ lf → ⊥) → eqb b quote ≡ is_barred b
-barred-quote b n m = rw (ne_eqb b cr n, ne_eqb b lf m)
-
-not-barred : (b : ℕ) → quote < b → is_barred b ≡ false
-not-barred b h =
-    let not-cr : (b ≡ cr → ⊥) = λ (z : b ≡ cr). omega arith in
-    let not-lf : (b ≡ lf → ⊥) = λ (z : b ≡ lf). omega arith in
-    let not-quote : (b ≡ quote → ⊥) = λ (z : b ≡ quote). omega arith in
-    rw (ne_eqb b cr not-cr, ne_eqb b lf not-lf, ne_eqb b quote not-quote)
-
 -- The turns of the loop that counts a row's fields: no byte so far is barred, and the commas that are left are the fields after
 -- those counted.
 pub record Counting (row : List ℕ) (count i : ℕ) : Type 0 where
@@ -40,45 +23,38 @@ pub record Counting (row : List ℕ) (count i : ℕ) : Type 0 where
   pub counted : count + commas (drop i row) ≡ length (fields row)
   pub small : count ≤ i + 1
 
+-- what the count answers
+abbrev pub counted_fields : List ℕ → Option ℕ
+counted_fields row = cond (some is_barred row) None (Some (length (fields row)))
+
 pub counting_begin : (row : List ℕ) → Counting row 1 0
 counting_begin row = let n = fields_count row in record { clean = refl; counted = omega arith; small = omega arith }
 
 module _ (row : List ℕ) (count i : ℕ) (g : Counting row count i) where
-  pub counting_end : length row ≤ i → count ≡ cond (some is_barred row) 0 (length (fields row))
+  pub counting_end : length row ≤ i → Some count ≡ counted_fields row
   counting_end h =
       let z = commas_over row i h in
       let n : count ≡ length (fields row) = let c = g.counted in omega arith in
-      rw (sym g.clean ∙ some_over is_barred row i h) n
+      rw (sym g.clean ∙ some_over is_barred row i h, n)
 
   module _ (h : i < length row) where
-    pub counting_barred : (x : Bool) → x ≡ is_barred (get_or row i 0) → x ≡ true
-        → 0 ≡ cond (some is_barred row) 0 (length (fields row))
+    pub counting_barred : (x : Bool) → x ≡ is_barred (get_or row i 0) → x ≡ true → None ≡ counted_fields row
     counting_barred x q t = rw (sym g.clean ∙ some-found is_barred row i h (sym q ∙ t))
-
-    -- a byte that is neither barred nor a comma
-    counting_on : is_barred (get_or row i 0) ≡ false → (get_or row i 0 ≡ comma → ⊥) → Counting row count (i + 1)
-    counting_on f n =
-        let z = commas-later row i h n in
-        let c = g.counted in
-        let s = g.small in
-        record { clean = sym (some_goes_on is_barred row i h f) ∙ g.clean; counted = omega arith; small = omega arith }
-
-    pub counting_low : (x : Bool) → x ≡ is_barred (get_or row i 0) → x ≡ false → get_or row i 0 ≤ quote → Counting row count (i + 1)
-    counting_low x q f l = counting_on (sym q ∙ f) (λ (z : get_or row i 0 ≡ comma). omega arith)
-
-    pub counting_other : quote < get_or row i 0 → (get_or row i 0 ≡ comma → ⊥) → Counting row count (i + 1)
-    counting_other l n = counting_on (not-barred (get_or row i 0) l) n
-
-    pub counting_high : zero_byte ≤ get_or row i 0 → Counting row count (i + 1)
-    counting_high l = counting_on (not-barred (get_or row i 0) (omega arith)) (λ (z : get_or row i 0 ≡ comma). omega arith)
 
     pub counting_comma : get_or row i 0 ≡ comma → Counting row (count + 1) (i + 1)
     counting_comma e =
         let z = commas_here row i h e in
         let c = g.counted in
         let s = g.small in
-        let n = not-barred (get_or row i 0) (omega arith) in
-        record { clean = sym (some_goes_on is_barred row i h n) ∙ g.clean; counted = omega arith; small = omega arith }
+        let f : is_barred (get_or row i 0) ≡ false = rw e in
+        record { clean = sym (some_goes_on is_barred row i h f) ∙ g.clean; counted = omega arith; small = omega arith }
+
+    pub counting_other : (get_or row i 0 ≡ comma → ⊥) → (x : Bool) → x ≡ is_barred (get_or row i 0) → x ≡ false → Counting row count (i + 1)
+    counting_other n x q f =
+        let z = commas-later row i h n in
+        let c = g.counted in
+        let s = g.small in
+        record { clean = sym (some_goes_on is_barred row i h (sym q ∙ f)) ∙ g.clean; counted = omega arith; small = omega arith }
 
 -- What one field says: a value, nothing, or neither.
 empty_length : (f : List ℕ) → length f ≡ 0 → equal f [] ≡ true

@@ -1,6 +1,6 @@
 -- Laws of the room, and the returns of the function that writes a row's lines.
 -- Assumes nothing.
-use Rattle.std.specs.Prelude.{ℕ, ◌+◌, ◌-◌, ◌*◌, ◌^◌, ◌≤◌, ◌<◌, ◌≡◌, Bool, false, List, length, eqb, leb}
+use Rattle.std.specs.Prelude.{ℕ, zero, suc, ◌+◌, ◌-◌, ◌*◌, ◌^◌, ◌≤◌, ◌<◌, ◌≡◌, refl, max, Bool, false, List, length, eqb, leb}
 use Rattle.std.proofs.Common.{◌∙◌, inl, inr, arith, eq-eqb, ne_eqb, eqb-true, lt-ltb, le-ltb}
 use Rattle.std.proofs.lemmas.Bool.{eqb-false}
 use Rattle.document.specs.Printing.{report_lines}
@@ -19,6 +19,10 @@ most_one kept e = rw (eq-eqb kept 0 e)
 pub most_kept_lem : (kept : ℕ) → (kept ≡ 0 → ⊥) → kept ≡ most_lines kept
 unfolding most_lines
 most_kept_lem kept e = rw (ne_eqb kept 0 e)
+
+pub most_max : (kept : ℕ) → max kept 1 ≡ most_lines kept
+most_max zero = most_one 0 refl
+most_max (suc k) = omega arith ∙ most_kept_lem (suc k) (omega arith)
 
 -- it is enough for a line, and for one of each kept row
 pub lines_enough : (kept : ℕ) → (1 ≤ most_lines kept) × (kept ≤ most_lines kept)

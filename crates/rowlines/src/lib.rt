@@ -5,33 +5,18 @@
 
 ghost use Rattle.std.specs.Prelude.{◌≡◌, length};
 ghost use Rattle.decimals.specs.Written.{Written};
-ghost use Rattle.rowlines.specs.RowLines.{most_lines, fits_row, answer_text, TextFits};
+ghost use Rattle.rowlines.specs.RowLines.{fits_row, answer_text, TextFits};
 
 use steps::Answered;
 
-// The number of a row that none can follow in 64 bits.
-const LAST_NUMBER: usize = 18446744073709551615;
-
 // Room ------------------------------------------------------------------------------------------------------------------
 
-// Lines that a row can have at most: a report for each kept row, or that it is refused.
-fn most_lines(kept: usize) -> usize
-    ensures { result ≡ most_lines kept }
-{
-    if kept == 0 {
-        return 1;
-    }
-    kept
-}
-
-// Whether the lines of one row more are sure to fit, and a number for the row after it.
+// Whether the lines of one row more are sure to fit, and a number for the row after it. A row has a line for each kept row at
+// most, or one that it is refused.
 pub fn row_fits(room: usize, filled: usize, kept: usize, number: usize) -> bool
     ensures { result ≡ fits_row room filled kept number }
 {
-    if number == LAST_NUMBER {
-        return false;
-    }
-    lines::lines_fit(room, filled, most_lines(kept))
+    number < usize::MAX && lines::lines_fit(room, filled, kept.max(1))
 }
 
 // Lines ------------------------------------------------------------------------------------------------------------------
@@ -48,8 +33,8 @@ pub fn put_row(
     requires { TextFits at parameters text.old reports.now a }
     ensures { Written at (length (answer_text parameters number reports.now a)) (answer_text parameters number reports.now a) text.old text.new result }
 {
-    if a.refusal != refusals::TAKEN {
-        return lines::put_refused(text, at, parameters, number, a.refusal);
+    match a.refusal {
+        refusals::TAKEN => lines::put_reports(text, at, parameters, number, reports, a.reported),
+        refusal => lines::put_refused(text, at, parameters, number, refusal),
     }
-    lines::put_reports(text, at, parameters, number, reports, a.reported)
 }

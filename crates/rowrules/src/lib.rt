@@ -6,62 +6,64 @@
 ghost use Rattle.std.specs.Prelude.{◌≡◌};
 ghost use Rattle.document.specs.Refusals.{refusal_of};
 ghost use Rattle.document.specs.Declarations.{header_row, event_row};
-ghost use Rattle.fields.specs.Split.{Split};
 ghost use Rattle.readings.specs.Readings.{Placed, said};
+ghost use Rattle.refusals.specs.Named.{number_of};
 
-use limits::MOST_EVENTS;
+use fields::Row;
+use limits::{MOST_EVENTS, MOST_FIELDS};
+use places::Names;
+use readings::Reading;
+use refusals::Refusal;
 
-// The refusal of the declarations' header: 5, 2, 3, 4 in this order.
-pub fn header_refusal(row: &[u8], f: fields::Fields) -> u8
-    requires { Split row.now f }
-    ensures { result ≡ refusal_of (header_row row.now) }
+// The first field of a header, and the name that no event has.
+const EVENT: &[u8] = b"event";
+
+const EPSILON: &[u8] = b"epsilon";
+
+// Whether the declarations' header is taken, or its refusal: 5, 2, 3, 4 in this order.
+pub fn header_refusal(row: &Row) -> Result<(), Refusal>
+    ensures { number_of result ≡ refusal_of (header_row row.now.bytes.now) }
 {
-    if limits::MOST_FIELDS < f.count {
-        return refusals::OVER_LIMITS;
+    if MOST_FIELDS < row.fields.count {
+        return Err(Refusal::OverLimits);
     }
-    if rows::has_stray(row) {
-        return refusals::BAD_SHAPE;
+    if rows::has_stray(row.bytes) || fields::field(row.bytes, 0) != EVENT {
+        return Err(Refusal::BadShape);
     }
-    if !fields::same(fields::field(row, 0), b"event") {
-        return refusals::BAD_SHAPE;
+    if !names::all_names(row) {
+        return Err(Refusal::BadName);
     }
-    if !names::all_names(row, f) {
-        return refusals::BAD_NAME;
+    if names::has_repeat(row) {
+        return Err(Refusal::NameTwice);
     }
-    if names::has_repeat(row, f) {
-        return refusals::NAME_TWICE;
-    }
-    refusals::TAKEN
+    Ok(())
 }
 
-// The refusal of an event's row after those read so far: 5, 2, 3, 4 in this order.
-pub fn event_refusal(text: &[u8], t: readings::Reading, row: &[u8], f: fields::Fields) -> u8
-    requires { Placed text.now t × Split row.now f }
-    ensures { result ≡ refusal_of (event_row (said text.now t) row.now) }
+// Whether an event's row is taken after those read so far, or its refusal: 5, 2, 3, 4 in this order.
+pub fn event_refusal(text: &[u8], t: Reading, row: &Row) -> Result<(), Refusal>
+    requires { Placed text.now t }
+    ensures { number_of result ≡ refusal_of (event_row (said text.now t) row.now.bytes.now) }
 {
     if MOST_EVENTS <= t.events {
-        return refusals::OVER_LIMITS;
+        return Err(Refusal::OverLimits);
     }
-    if rows::has_stray(row) {
-        return refusals::BAD_SHAPE;
+    if rows::has_stray(row.bytes)
+        || row.fields.count != t.parameters + 1
+        || !names::all_marks(row)
+    {
+        return Err(Refusal::BadShape);
     }
-    if f.count != t.parameters + 1 {
-        return refusals::BAD_SHAPE;
+    let name = row.field(0);
+    if !names::is_name(name) || name == EPSILON {
+        return Err(Refusal::BadName);
     }
-    if !names::all_marks(row, f) {
-        return refusals::BAD_SHAPE;
+    let declared = Names {
+        text,
+        places: &t.places,
+        count: t.events,
+    };
+    if declared.find(name).is_some() {
+        return Err(Refusal::NameTwice);
     }
-    let name = fields::field_at(row, f, 0);
-    if !names::is_name(name) {
-        return refusals::BAD_NAME;
-    }
-    if fields::same(name, b"epsilon") {
-        return refusals::BAD_NAME;
-    }
-    let starts = t.starts;
-    let sizes = t.sizes;
-    if places::find(text, &starts, &sizes, t.events, name) < t.events {
-        return refusals::NAME_TWICE;
-    }
-    refusals::TAKEN
+    Ok(())
 }

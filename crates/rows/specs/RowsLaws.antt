@@ -3,11 +3,13 @@
 -- Assumes nothing.
 use Rattle.std.specs.Prelude.{ℕ, ◌+◌, ◌≤◌, ◌<◌, ◌≡◌, refl, Bool, true, false, ◌&&◌, ◌||◌, List, [], ◌∷◌, length, get_or, drop, eqb}
 use Rattle.std.proofs.Common.{sym, ap, ◌∙◌, inl, inr, length-drop, arith, eq-eqb, ne_eqb}
+use Rattle.std.specs.List.{list_any}
+use Rattle.document.specs.Lists.{some}
 use Rattle.document.specs.Classes.{cr, lf}
 use Rattle.document.specs.Rows.{ends_row, first_row, after_row, stray}
 use Rattle.document.specs.Log.{next_at}
 use Rattle.basics.specs.Tests.{decided}
-use Rattle.basics.specs.Left.{drop_here, drop-end, some_over, some-found, some_goes_on}
+use Rattle.basics.specs.Left.{drop_here, drop-end}
 
 -- A row's end: at the end of the text, at a line end, at any other byte.
 pub row_over : (s : List ℕ) (i : ℕ) → length s ≤ i → first_row (drop i s) ≡ []
@@ -24,7 +26,7 @@ unfolding first_row
 row_goes_on s i h e = rw (drop_here s i h, e, first_row)
 
 -- a line end is a CR and an LF, and there are two bytes to it
-pub ends_row_end : (s : List ℕ) (i b : ℕ) → length s ≤ i + 1 → ends_row b (drop (i + 1) s) ≡ false
+pub ends_row_end : (s : List ℕ) (i b : ℕ) → length s ≤ i + 1 → false ≡ ends_row b (drop (i + 1) s)
 unfolding ends_row
 ends_row_end s i b h = rw (drop-end s (i + 1) h)
 
@@ -109,20 +111,8 @@ pub next_none : (s : List ℕ) (at end : ℕ) → end ≡ at + length (first_row
 unfolding next_at
 next_none s at end e h = rw (after_last (drop at s) (rw length-drop (omega arith))) (omega arith)
 
--- The turns of the loop that looks for a stray CR or LF.
-pub stray-cr : (s : List ℕ) (i : ℕ) → stray (drop i s) ≡ stray s → i < length s → get_or s i 0 ≡ cr → true ≡ stray s
-unfolding stray
-stray-cr s i q h e = sym (some-found (λ b. eqb b cr || eqb b lf) s i h (rw e)) ∙ q
-
-pub stray-lf : (s : List ℕ) (i : ℕ) → stray (drop i s) ≡ stray s → i < length s → get_or s i 0 ≡ lf → true ≡ stray s
-unfolding stray
-stray-lf s i q h e = sym (some-found (λ b. eqb b cr || eqb b lf) s i h (rw e)) ∙ q
-
-pub stray-turn : (s : List ℕ) (i : ℕ) → stray (drop i s) ≡ stray s → i < length s → (get_or s i 0 ≡ cr → ⊥) → (get_or s i 0 ≡ lf → ⊥)
-    → stray (drop (i + 1) s) ≡ stray s
-unfolding stray
-stray-turn s i q h n m = sym (some_goes_on (λ b. eqb b cr || eqb b lf) s i h (rw (ne_eqb (get_or s i 0) cr n, ne_eqb (get_or s i 0) lf m))) ∙ q
-
-pub stray_over : (s : List ℕ) (i : ℕ) → stray (drop i s) ≡ stray s → length s ≤ i → false ≡ stray s
-unfolding stray
-stray_over s i q h = sym (some_over (λ b. eqb b cr || eqb b lf) s i h) ∙ q
+-- a stray CR or LF is what some byte is
+pub stray_some : (s : List ℕ) → list_any (λ b. eqb b cr || eqb b lf) s ≡ stray s
+unfolding stray some
+stray_some [] = refl
+stray_some (b ∷ s) = ap (λ t. (eqb b cr || eqb b lf) || t) (stray_some s)

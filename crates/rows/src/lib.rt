@@ -16,28 +16,22 @@ fn ends_at(s: &[u8], i: usize) -> bool
     requires { i < length s.now }
     ensures { result ≡ ends_row (get_or s.now i 0) (drop (i + 1) s.now) }
 {
-    let next = i + 1;
-    if s.len() <= next {
+    if s.len() <= i + 1 || s[i] != CR {
         return false;
     }
-    if s[i] != CR {
-        return false;
-    }
-    s[next] == LF
+    s[i + 1] == LF
 }
 
 // Where the row that begins at a place ends: its line end, or the text's end.
 pub fn row_end(s: &[u8], at: usize) -> usize
     ensures { result ≡ at + length (first_row (drop at s.now)) }
 {
-    let mut i = at;
-    while i < s.len() {
+    for i in at..s.len() {
         if ends_at(s, i) {
             return i;
         }
-        i += 1;
     }
-    i
+    at.max(s.len())
 }
 
 // The place after the row that begins at a place, its line end passed.
@@ -45,26 +39,12 @@ pub fn next_row(s: &[u8], at: usize) -> usize
     ensures { result ≡ next_at s.now at }
 {
     let end = row_end(s, at);
-    if end < s.len() {
-        return end + 2;
-    }
-    s.len()
+    if end < s.len() { end + 2 } else { s.len() }
 }
 
 // Whether a row holds a stray CR or LF.
 pub fn has_stray(row: &[u8]) -> bool
     ensures { result ≡ stray row.now }
 {
-    let mut i: usize = 0;
-    while i < row.len() {
-        let b = row[i];
-        if b == CR {
-            return true;
-        }
-        if b == LF {
-            return true;
-        }
-        i += 1;
-    }
-    false
+    row.iter().any(|&b| b == CR || b == LF)
 }

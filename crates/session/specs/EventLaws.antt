@@ -1,81 +1,77 @@
 -- The returns of one event.
 -- Assumes nothing.
-use Rattle.std.specs.Prelude.{ℕ, ◌<◌, ◌≤◌, ◌≡◌, Bool, true, false, not, List, get_or}
+use Rattle.std.specs.Prelude.{ℕ, ◌<◌, ◌≤◌, ◌≡◌, Bool, true, false, List, get_or}
 use Rattle.std.proofs.Math.Path.{refl, sym, ap}
-use Rattle.std.proofs.Common.{subst, ◌∙◌, arith}
-use borrow.Author.Tests.{le-leb, lt-leb, not-true, not-false}
-use Rattle.document.specs.Limits.{most_events}
-use Rattle.document.specs.Positions.{holds}
-use Rattle.document.specs.Refusals.{Answer}
+use Rattle.std.proofs.Common.{subst, ◌∙◌}
+use borrow.Author.Tests.{le-leb, lt-leb}
+use Rattle.document.specs.Refusals.{Answer, number}
 use Rattle.document.specs.Combinations.{binds_exactly}
 use Rattle.document.specs.Property.{Property, in_range, set_of}
-use Rattle.document.specs.Session.{Happened, kept_of, sound, event, leaves, step_from}
-use Rattle.words.specs.Range.{in_range_range}
-use Rattle.judge.specs.Sound.{sound_by, session_of}
+use Rattle.document.specs.Session.{Session, Happened, kept_of, sound, event, leaves, step_from}
+use Rattle.judge.specs.Sound.{session_of}
 use Rattle.moves.specs.Ready.{Steady}
 use Rattle.moves.specs.declared.Known.{Known}
 use Rattle.known.specs.Knowing.{KnownOf}
-use Rattle.known.specs.KnowingLaws.{known_sound, taken_property}
+use Rattle.refusals.specs.Named.{named}
+use Rattle.refusals.specs.declared.Refusal.{Refusal}
+use Rattle.refusals.specs.declared.Refusal.TheVariants.{BadProperty, BadSession, NoSuchEvent, WrongValues}
 use Rattle.steps.specs.Steps.{step_by, answered, Leaves}
 use Rattle.steps.specs.SteadyLaws.{kept_range, sound_steady, step_same}
 use Rattle.steps.specs.declared.Answered.{Answered}
+use Rattle.session.specs.Events.{Judged, EventRefused}
 
--- what the calls beneath need
-module _ (p : Property) (f : Bool) (qf : f ≡ in_range p) (zf : not f ≡ false) where
-  pub event_index : (e : ℕ) → e < p.events → e < most_events
-  event_index e l = let x = (in_range_range p (taken_property p f qf zf)).few_events in omega arith
+-- Judged ---------------------------------------------------------------------------------------------------------------
 
-  pub event_steady : (n m : ℕ) (seen kept : List ℕ) (k : Known) → KnownOf p k → (g : Bool) → g ≡ sound_by k.parameters k.states (holds k.hopeful) (session_of n m seen kept)
-      → not g ≡ false → (e : ℕ) → e < p.events → Steady p.next k.states e n m seen kept
-  event_steady n m seen kept k u g qg zg e l =
-      rw u.states (sound_steady p (taken_property p f qf zf) n m seen kept (sym (known_sound p k (session_of n m seen kept) u) ∙ sym qg ∙ not-false g zg) e l)
+module _ (p : Property) (s : Session) (e : ℕ) (values : List ℕ) where
+  pub event_property : in_range p ≡ false → (r : Refusal) → r ≡ BadProperty → EventRefused p s e values r
+  unfolding event
+  event_property z r q = record { says = λ reports. rw (z, q) }
+
+  module _ (range : in_range p ≡ true) where
+    pub event_session : sound p s ≡ false → (r : Refusal) → r ≡ BadSession → EventRefused p s e values r
+    unfolding event
+    event_session z r q = record { says = λ reports. rw (range, z, q) }
+
+    module _ (right : sound p s ≡ true) where
+      pub event-number : p.events ≤ e → EventRefused p s e values NoSuchEvent
+      unfolding event
+      event-number l = record { says = λ reports. rw (range, right, le-leb p.events e l) }
+
+      module _ (there : e < p.events) (set : ℕ) (h : Bool) (qs : set ≡ get_or p.sets e 0) (qh : h ≡ binds_exactly set values) where
+        binds : binds_exactly (set_of p e) values ≡ h
+        unfolding set_of
+        binds = ap (λ (x : ℕ). binds_exactly x values) (sym qs) ∙ sym qh
+
+        pub event_values : h ≡ false → EventRefused p s e values WrongValues
+        unfolding event
+        event_values z = record { says = λ reports. rw (range, right, lt-leb p.events e there, binds ∙ z) }
+
+        pub event_judged : h ≡ true → (k : Known) → KnownOf p k → Judged p s e values k
+        event_judged z k u = record { range = range; right = right; there = there; binds = binds ∙ z; known = u }
 
 -- One event ------------------------------------------------------------------------------------------------------------
 
-module _ (p : Property) (n m : ℕ) (seen kept reports : List ℕ) (e : ℕ) (values : List ℕ) (f : Bool) (qf : f ≡ in_range p) where
-  pub event_property : not f ≡ true → (r : Answered) → r ≡ record { refusal = 11; seen = n; kept = m; reported = 0 }
+module _ (p : Property) (n m : ℕ) (seen kept : List ℕ) (e : ℕ) (values : List ℕ) where
+  pub event_refused : (x : Refusal) → EventRefused p (session_of n m seen kept) e values x → (reports : List ℕ) → (y : ℕ) → y ≡ number (named x)
+      → (r : Answered) → r ≡ record { refusal = y; seen = n; kept = m; reported = 0 }
       → Leaves (event p (session_of n m seen kept) reports e values) (session_of n m seen kept) reports r seen kept reports
-  unfolding event answered leaves
-  event_property z r q = rw (sym qf ∙ not-true f z) (record { says = q; seen_left = refl; kept_left = refl; reports_left = refl })
+  unfolding answered leaves
+  event_refused x w reports y d r q =
+      rw (w.says reports) (record { says = rw d at q; seen_left = refl; kept_left = refl; reports_left = refl })
 
-  module _ (zf : not f ≡ false) (k : Known) (u : KnownOf p k) where
-    in_range_lem : in_range p ≡ true
-    in_range_lem = sym qf ∙ not-false f zf
+  module _ (k : Known) (w : Judged p (session_of n m seen kept) e values k) where
+    -- what the step needs
+    pub event_steady : Steady k.next k.states e n m seen kept
+    event_steady = rw (w.known.next, w.known.states) (sound_steady p w.range n m seen kept w.right e w.there)
 
-    module _ (g : Bool) (qg : g ≡ sound_by k.parameters k.states (holds k.hopeful) (session_of n m seen kept)) where
-      checked : sound p (session_of n m seen kept) ≡ g
-      checked = sym (known_sound p k (session_of n m seen kept) u) ∙ sym qg
-
-      pub event_session : not g ≡ true → (r : Answered) → r ≡ record { refusal = 12; seen = n; kept = m; reported = 0 }
-          → Leaves (event p (session_of n m seen kept) reports e values) (session_of n m seen kept) reports r seen kept reports
-      unfolding event answered leaves
-      event_session z r q = rw (in_range_lem, checked ∙ not-true g z) (record { says = q; seen_left = refl; kept_left = refl; reports_left = refl })
-
-      module _ (zg : not g ≡ false) where
-        pub event-number : p.events ≤ e → (r : Answered) → r ≡ record { refusal = 13; seen = n; kept = m; reported = 0 }
-            → Leaves (event p (session_of n m seen kept) reports e values) (session_of n m seen kept) reports r seen kept reports
-        unfolding event answered leaves
-        event-number l r q = rw (in_range_lem, checked ∙ not-false g zg, le-leb p.events e l) (record { says = q; seen_left = refl; kept_left = refl; reports_left = refl })
-
-        module _ (l : e < p.events) where
-          module _ (set : ℕ) (h : Bool) (qs : set ≡ get_or p.sets e 0) (qh : h ≡ binds_exactly set values) where
-            binds : binds_exactly (set_of p e) values ≡ h
-            unfolding set_of
-            binds = ap (λ (x : ℕ). binds_exactly x values) (sym qs) ∙ sym qh
-
-            pub event_values : not h ≡ true → (r : Answered) → r ≡ record { refusal = 14; seen = n; kept = m; reported = 0 }
-                → Leaves (event p (session_of n m seen kept) reports e values) (session_of n m seen kept) reports r seen kept reports
-            unfolding event answered leaves
-            event_values z r q =
-                rw (in_range_lem, checked ∙ not-false g zg, lt-leb p.events e l, binds ∙ not-true h z) (record { says = q; seen_left = refl; kept_left = refl; reports_left = refl })
-
-            pub event_steps : not h ≡ false → (r : Answered) (seen' kept' reports' : List ℕ)
-                → Leaves (step_by p.next p.verdicts k.hopeful k.asked 0 (session_of n m seen kept) reports e values) (session_of n m seen kept) reports r seen' kept' reports'
-                → Leaves (event p (session_of n m seen kept) reports e values) (session_of n m seen kept) reports r seen' kept' reports'
-            unfolding event kept_of
-            event_steps z r seen' kept' reports' v =
-                let a : step_by p.next p.verdicts k.hopeful k.asked 0 (session_of n m seen kept) reports e values ≡ step_from 0 p (session_of n m seen kept) reports e values =
-                step_same p in_range_lem k.hopeful k.asked u.hopes u.asks (session_of n m seen kept)
-                (kept_range p in_range_lem n m seen kept (checked ∙ not-false g zg)) e l values 0 reports in
-                rw (in_range_lem, checked ∙ not-false g zg, lt-leb p.events e l, binds ∙ not-false h z)
-                (subst (λ (x : Answer Happened). Leaves x (session_of n m seen kept) reports r seen' kept' reports') a v)
+    pub event_steps : (reports : List ℕ) (r : Answered) (seen' kept' reports' : List ℕ)
+        → Leaves (step_by k.next k.verdicts k.hopeful k.asked 0 (session_of n m seen kept) reports e values) (session_of n m seen kept) reports r seen' kept' reports'
+        → Leaves (event p (session_of n m seen kept) reports e values) (session_of n m seen kept) reports r seen' kept' reports'
+    unfolding event kept_of
+    event_steps reports r seen' kept' reports' v =
+        let u = w.known in
+        let a : step_by k.next k.verdicts k.hopeful k.asked 0 (session_of n m seen kept) reports e values ≡ step_from 0 p (session_of n m seen kept) reports e values =
+        rw (u.next, u.verdicts) (step_same p w.range k.hopeful k.asked u.hopes u.asks (session_of n m seen kept)
+        (kept_range p w.range n m seen kept w.right) e w.there values 0 reports) in
+        rw (w.range, w.right, lt-leb p.events e w.there, w.binds)
+        (subst (λ (x : Answer Happened). Leaves x (session_of n m seen kept) reports r seen' kept' reports') a v)

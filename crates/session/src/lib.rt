@@ -6,20 +6,40 @@
 
 #![tactic(auto)]
 
-ghost use Rattle.std.specs.Prelude.{◌≡◌};
+ghost use Rattle.std.specs.Prelude.{MatchResult};
 ghost use Rattle.document.specs.Session.{event};
 ghost use Rattle.property.specs.Meaning.{meaning};
 ghost use Rattle.judge.specs.Sound.{session_of};
 ghost use Rattle.steps.specs.Steps.{Leaves};
+ghost use Rattle.session.specs.Events.{Judged, EventRefused};
 
 use limits::Combination;
+use moves::Known;
 use property::Property;
+use refusals::Refusal;
 use steps::Answered;
 
-fn set_bits(x: u8) -> u64
-    ensures { result ≡ x }
+// What is known of the table, where the event may be stepped; refused 11, 12, 13, 14.
+fn judge_event(
+    p: Property,
+    seen: &[u32],
+    n: usize,
+    kept: &[u32],
+    m: usize,
+    e: usize,
+    values: Combination,
+) -> Result<Known, Refusal>
+    ensures { MatchResult result (λ k. Judged (meaning p) (session_of n m seen.now kept.now) e values k) (λ r. EventRefused (meaning p) (session_of n m seen.now kept.now) e values r) }
 {
-    x as u64
+    let taken = p.taken()?;
+    let known = known::judged(&taken, seen, n, kept, m)?;
+    if p.events <= e {
+        return Err(Refusal::NoSuchEvent);
+    }
+    if !bound::binds_exactly(u64::from(p.sets[e]), values) {
+        return Err(Refusal::WrongValues);
+    }
+    Ok(known)
 }
 
 // One event with its values: refused 11, 12, 13, 14, then 15 to 17.
@@ -35,21 +55,8 @@ pub fn event(
 ) -> Answered
     ensures { Leaves (event (meaning p) (session_of n m seen.old kept.old) reports.old e values) (session_of n m seen.old kept.old) reports.old result seen.new kept.new reports.new }
 {
-    if !property::in_range(p) {
-        return steps::counts_alone(refusals::BAD_PROPERTY, n, m);
+    match judge_event(p, seen, n, kept, m, e, values) {
+        Ok(known) => steps::step(&known, seen, n, kept, m, reports, 0, e, values),
+        Err(refusal) => steps::counts_alone(refusal.number(), n, m),
     }
-    let k = known::work_out(p);
-    if !judge::sound(k.parameters, k.states, k.hopeful, seen, n, kept, m) {
-        return steps::counts_alone(refusals::BAD_SESSION, n, m);
-    }
-    if p.events <= e {
-        return steps::counts_alone(refusals::NO_SUCH_EVENT, n, m);
-    }
-    let sets = p.sets;
-    if !bound::binds_exactly(set_bits(sets[e]), values) {
-        return steps::counts_alone(refusals::WRONG_VALUES, n, m);
-    }
-    let next = p.next;
-    let verdicts = p.verdicts;
-    steps::step(&next, &verdicts, k, seen, n, kept, m, reports, 0, e, values)
 }

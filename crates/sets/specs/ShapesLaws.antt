@@ -41,6 +41,34 @@ filled_more {n} {g} {r} {i} {v} h l e = record {
 pub filled_all : {n : ℕ} {g : ℕ → ℕ} {r : List ℕ} {i : ℕ} → Filled n g r i → n ≤ i → r ≡ tabulate n g
 filled_all {n} {g} {r} h l = tabulate-is n g r h.long (λ k m. h.entry k (omega arith))
 
+-- the same of a list that is r from i on yet
+pub record Filling (n : ℕ) (g : ℕ → ℕ) (a r : List ℕ) (i : ℕ) : Type 0 where
+  pub filled : Filled n g r i
+  pub left : (k : ℕ) → i ≤ k → get_or r k 0 ≡ get_or a k 0
+
+pub filling_none : (n : ℕ) (g : ℕ → ℕ) (a : List ℕ) → length a ≡ n → Filling n g a a 0
+filling_none n g a e = record { filled = filled_none e; left = λ k l. refl }
+
+pub filling_more : (n : ℕ) (g : ℕ → ℕ) (a r : List ℕ) (i v : ℕ) → Filling n g a r i → i < n → (get_or r i 0 ≡ get_or a i 0 → v ≡ g i)
+    → Filling n g a (set r i v) (i + 1)
+filling_more n g a r i v h l e = record {
+  filled = filled_more h.filled l (e (h.left i (omega arith)));
+  left = λ k m. get_or-set_other r i k v 0 (λ (q : k ≡ i). omega arith) ∙ h.left k (omega arith);
+}
+
+pub filling_same : (n : ℕ) (g : ℕ → ℕ) (a r : List ℕ) (i : ℕ) → Filling n g a r i → i < n → get_or a i 0 ≡ g i → Filling n g a r (i + 1)
+filling_same n g a r i h l e = record {
+  filled = record {
+    below = omega arith;
+    long = h.filled.long;
+    entry = below_more (λ (k : ℕ). get_or r k 0 ≡ g k) i h.filled.entry (h.left i (omega arith) ∙ e);
+  };
+  left = λ k m. h.left k (omega arith);
+}
+
+pub filling_all : (n : ℕ) (g : ℕ → ℕ) (a r : List ℕ) (i : ℕ) → Filling n g a r i → n ≤ i → r ≡ tabulate n g
+filling_all n g a r i h l = filled_all h.filled l
+
 -- Merging and linking rules ---------------------------------------------------------------------------------------------
 
 merge_rules : (n : ℕ) (f g : ℕ → ℕ) → merge_of n (tabulate n f) (tabulate n g) ≡ tabulate n (λ k. bit_or (f k) (g k))

@@ -5,10 +5,9 @@
 
 #![tactic(auto)]
 
-ghost use Rattle.std.specs.Prelude.{◌≡◌, cond, ◌||◌, ◌&&◌, suc, ◌≤◌, ◌<◌};
+ghost use Rattle.std.specs.Prelude.{◌≡◌, ◌≤◌, ◌<◌};
 ghost use Rattle.document.specs.Patterns.{epsilon, name};
 ghost use Rattle.document.specs.Limits.{most_names, most_events};
-ghost use Rattle.document.specs.Positions.{holds};
 ghost use Rattle.sets.specs.Shapes.{merge_of, link_of, shape_of, either_shape, then_shape, star_shape, plus_shape};
 
 use limits::{MOST_EVENTS, NUMBERS};
@@ -23,70 +22,28 @@ pub struct Shape {
     pub named: [u32; MOST_EVENTS],
 }
 
-// Whether a set holds a number.
-pub fn has(set: u32, k: usize) -> bool
-    requires { k < 32 }
-    ensures { result ≡ holds set k }
+// The sets of a and b joined, place by place.
+fn merge<const N: usize>(a: &[u32; N], b: &[u32; N]) -> [u32; N]
+    ensures { result ≡ merge_of N a.now b.now }
 {
-    (set >> k) % 2 == 1
-}
-
-pub fn either(a: bool, b: bool) -> bool
-    ensures { result ≡ a || b }
-{
-    a || b
-}
-
-pub fn both(a: bool, b: bool) -> bool
-    ensures { result ≡ a && b }
-{
-    a && b
-}
-
-// x where c holds, else y.
-pub fn choose(c: bool, x: u32, y: u32) -> u32
-    ensures { result ≡ cond c x y }
-{
-    if c { x } else { y }
-}
-
-// The sets of a and b joined, number by number.
-fn merge(a: [u32; NUMBERS], b: [u32; NUMBERS]) -> [u32; NUMBERS]
-    ensures { result ≡ merge_of (suc most_names) a b }
-{
-    let mut r = a;
-    let mut i: usize = 0;
-    while i < NUMBERS {
-        r[i] = a[i] | b[i];
-        i += 1;
+    let mut joined = *a;
+    for i in 0..N {
+        joined[i] |= b[i];
     }
-    r
-}
-
-// The same, event by event.
-fn merge_named(a: [u32; MOST_EVENTS], b: [u32; MOST_EVENTS]) -> [u32; MOST_EVENTS]
-    ensures { result ≡ merge_of most_events a b }
-{
-    let mut r = a;
-    let mut i: usize = 0;
-    while i < MOST_EVENTS {
-        r[i] = a[i] | b[i];
-        i += 1;
-    }
-    r
+    joined
 }
 
 // After the numbers of `last` those of `first` can come too.
-fn link(a: [u32; NUMBERS], last: u32, first: u32) -> [u32; NUMBERS]
-    ensures { result ≡ link_of a last first }
+fn link(a: &[u32; NUMBERS], last: u32, first: u32) -> [u32; NUMBERS]
+    ensures { result ≡ link_of a.now last first }
 {
-    let mut r = a;
-    let mut i: usize = 0;
-    while i < NUMBERS {
-        r[i] = a[i] | choose(has(last, i), first, 0);
-        i += 1;
+    let mut linked = *a;
+    for i in 0..NUMBERS {
+        if bits::has(u64::from(last), i) {
+            linked[i] |= first;
+        }
     }
-    r
+    linked
 }
 
 // The empty word.
@@ -97,8 +54,8 @@ pub fn empty() -> Shape
         null: true, // its one word
         first: 0,
         last: 0,
-        follow: [0u32; NUMBERS],
-        named: [0u32; MOST_EVENTS],
+        follow: [0; NUMBERS],
+        named: [0; MOST_EVENTS],
     }
 }
 
@@ -114,8 +71,8 @@ pub fn leaf(n: usize, event: usize) -> Shape
         null: false,
         first: set,
         last: set,
-        follow: [0u32; NUMBERS],
-        named: named,
+        follow: [0; NUMBERS],
+        named,
     }
 }
 
@@ -123,19 +80,12 @@ pub fn leaf(n: usize, event: usize) -> Shape
 pub fn alternative(a: Shape, b: Shape) -> Shape
     ensures { result ≡ either_shape a b }
 {
-    let x = a.follow;
-    let y = b.follow;
-    let follow = merge(x, y);
-    let m = a.named;
-    let n = b.named;
-    let named = merge_named(m, n);
-    let null = either(a.null, b.null);
     Shape {
-        null,
+        null: a.null || b.null,
         first: a.first | b.first,
         last: a.last | b.last,
-        follow,
-        named,
+        follow: merge(&a.follow, &b.follow),
+        named: merge(&a.named, &b.named),
     }
 }
 
@@ -143,22 +93,13 @@ pub fn alternative(a: Shape, b: Shape) -> Shape
 pub fn sequence(a: Shape, b: Shape) -> Shape
     ensures { result ≡ then_shape a b }
 {
-    let x = a.follow;
-    let y = b.follow;
-    let merged = merge(x, y);
-    let follow = link(merged, a.last, b.first);
-    let m = a.named;
-    let n = b.named;
-    let named = merge_named(m, n);
-    let null = both(a.null, b.null);
-    let first = choose(a.null, a.first | b.first, a.first);
-    let last = choose(b.null, a.last | b.last, b.last);
+    let merged = merge(&a.follow, &b.follow);
     Shape {
-        null,
-        first,
-        last,
-        follow,
-        named,
+        null: a.null && b.null,
+        first: if a.null { a.first | b.first } else { a.first },
+        last: if b.null { a.last | b.last } else { b.last },
+        follow: link(&merged, a.last, b.first),
+        named: merge(&a.named, &b.named),
     }
 }
 
@@ -166,15 +107,9 @@ pub fn sequence(a: Shape, b: Shape) -> Shape
 pub fn star(a: Shape) -> Shape
     ensures { result ≡ star_shape a }
 {
-    let x = a.follow;
-    let follow = link(x, a.last, a.first);
-    let named = a.named;
     Shape {
         null: true,
-        first: a.first,
-        last: a.last,
-        follow,
-        named,
+        ..plus(a)
     }
 }
 
@@ -182,14 +117,8 @@ pub fn star(a: Shape) -> Shape
 pub fn plus(a: Shape) -> Shape
     ensures { result ≡ plus_shape a }
 {
-    let x = a.follow;
-    let follow = link(x, a.last, a.first);
-    let named = a.named;
     Shape {
-        null: a.null,
-        first: a.first,
-        last: a.last,
-        follow,
-        named,
+        follow: link(&a.follow, a.last, a.first),
+        ..a
     }
 }

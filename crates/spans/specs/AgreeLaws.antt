@@ -1,8 +1,11 @@
 -- Whether a row includes the binding, parameter by parameter.
 -- Assumes nothing.
-use Rattle.std.specs.Prelude.{ℕ, zero, suc, ◌+◌, ◌*◌, ◌<◌, ◌≤◌, ◌≡◌, refl, ◌⊎◌, Bool, true, false, ◌||◌, List, [], ◌∷◌, T, eqb, length, get_or}
+use Rattle.std.specs.Prelude.{ℕ, zero, suc, ◌+◌, ◌-◌, ◌*◌, ◌<◌, ◌≤◌, ◌≡◌, refl, ◌⊎◌, Bool, true, false, ◌||◌, List, [], ◌∷◌, T, eqb, length, get_or}
 use Rattle.std.proofs.Common.{sym, ap, subst, ◌∙◌, inl, inr, arith, eqb→eq, eq-eqb, ne_eqb}
 use Rattle.std.proofs.Math.Decide.{ℕ_discrete, dec_lt}
+use Rattle.std.specs.Bool.{MatchBool}
+use Rattle.std.specs.List.{range_with_len, AllWithin, HoldsAt}
+use Rattle.std.proofs.lemmas.List.FromFn.{length-range_with_len, get_or-range_with_len}
 use Rattle.document.specs.Lists.{In}
 use Rattle.document.specs.Limits.{width, kept_stride}
 use Rattle.document.specs.Combinations.{includes}
@@ -61,7 +64,7 @@ module _ (t : List ℕ) (at : ℕ) (b : List ℕ) where
 
   -- a row that agrees at the first parameter, at the last that is bound, and between them
   pub agree_bound : (last number : ℕ) → length b ≡ width → LastBound b last → number ≡ get_or b last 0 → Agree t at b 0 → get_or t (at + last) 0 ≡ number → (r : Bool)
-      → Agrees t at b last r → r ≡ true → includes (numbers_at width t at) b ≡ true
+      → Agrees t at b 1 last r → r ≡ true → includes (numbers_at width t at) b ≡ true
   agree_bound last number o l q a e r u z = agree_all o go
     where
       go : (j : ℕ) → j < width → Agree t at b j
@@ -73,34 +76,37 @@ module _ (t : List ℕ) (at : ℕ) (b : List ℕ) where
         ]
       ]
 
--- The turns ------------------------------------------------------------------------------------------------------------
-
--- the parameters below j, but for the first, agree
-pub record Agreeing (t : List ℕ) (at : ℕ) (b : List ℕ) (j : ℕ) : Type 0 where
-  pub begun : 0 < j
-  pub below : (k : ℕ) → 0 < k → k < j → Agree t at b k
+-- The search for a parameter that differs ------------------------------------------------------------------------------
 
 module _ (t : List ℕ) (at : ℕ) (b : List ℕ) where
-  pub agreeing_begins : Agreeing t at b 1
-  agreeing_begins = record { begun = omega arith; below = λ k h g. absurd (omega arith) }
+  -- b is bound at parameter j, and the row has another number there
+  abbrev pub Differ : ℕ → Type 0
+  Differ j = (get_or b j 0 ≡ 0 → ⊥) × (get_or t (at + j) 0 ≡ get_or b j 0 → ⊥)
 
-  agreeing_turn : (j : ℕ) → Agreeing t at b j → Agree t at b j → Agreeing t at b (j + 1)
-  agreeing_turn j u a = record {
-    begun = omega arith;
-    below = λ k h g. elim (ℕ_discrete k j) [ yes z ↦ rw z a | no z ↦ u.below k h (omega arith) ];
+  pub agrees_of : (from to : ℕ) (r : Bool) → to ≤ width
+      → MatchBool r (AllWithin (Agree t at b) (range_with_len from (to - from)) 0 (length (range_with_len from (to - from))))
+      ((k : ℕ) × (k < length (range_with_len from (to - from))) × HoldsAt Differ (range_with_len from (to - from)) k) → Agrees t at b from to r
+  agrees_of from to true h f = record {
+    yes = λ q j x y.
+        let long = length-range_with_len from (to - from) in
+        let e : from + (j - from) ≡ j = omega arith in
+        subst (λ (z : ℕ). Agree t at b z) (get_or-range_with_len from (to - from) (j - from) 0 (omega arith) ∙ e) (f (j - from) 0 (omega arith) (omega arith));
+    no = λ q. absurd (subst T q tt);
+  }
+  agrees_of from to false h f = record {
+    yes = λ q. absurd (subst T (sym q) tt);
+    no = λ q.
+        let long = length-range_with_len from (to - from) in
+        let k : ℕ = f.0 in
+        let l : k < length (range_with_len from (to - from)) = f.1 in
+        let n = subst Differ (get_or-range_with_len from (to - from) k 0 (omega arith)) (f.2 0) in
+        differs t at b (from + k) (omega arith) n.0 n.1;
   }
 
-  pub agreeing_unbound : (j : ℕ) → Agreeing t at b j → get_or b j 0 ≡ 0 → Agreeing t at b (j + 1)
-  agreeing_unbound j u z = agreeing_turn j u (inl z)
-
-  pub agreeing_same : (j : ℕ) → Agreeing t at b j → get_or t (at + j) 0 ≡ get_or b j 0 → Agreeing t at b (j + 1)
-  agreeing_same j u q = agreeing_turn j u (inr q)
-
-  pub agrees-not : (j last : ℕ) → j < last → last < width → (get_or b j 0 ≡ 0 → ⊥) → (get_or t (at + j) 0 ≡ get_or b j 0 → ⊥) → Agrees t at b last false
-  agrees-not j last h g z n = record { yes = λ q. absurd (subst T (sym q) tt); no = λ q. differs t at b j (omega arith) z n }
-
-  pub agrees_all : (j last : ℕ) → Agreeing t at b j → last ≤ j → Agrees t at b last true
-  agrees_all j last u h = record { yes = λ q k g l. u.below k g (omega arith); no = λ q. absurd (subst T q tt) }
+-- at all parameters: the row includes b
+pub agrees_everywhere : (t : List ℕ) (at : ℕ) (b : List ℕ) (r : Bool) → length b ≡ width → Agrees t at b 0 width r → r ≡ includes (numbers_at width t at) b
+agrees_everywhere t at b true o u = sym (agree_all t at b o (λ j h. u.yes refl j (omega arith) h))
+agrees_everywhere t at b false o u = sym (u.no refl)
 
 -- n rows from row i on, by what holds of each
 pub rows_in_lem : (i n : ℕ) (t b : List ℕ) → ((k : ℕ) → i ≤ k → k < i + n → includes (numbers_at width t (k * kept_stride)) b ≡ false)

@@ -1,7 +1,11 @@
 -- Where the rows stand that may include the binding: the turns of the search, and what its two answers say.
 -- Assumes nothing.
-use Rattle.std.specs.Prelude.{ℕ, ◌+◌, ◌*◌, ◌<◌, ◌≤◌, ◌≡◌, List, T, length, get_or}
+use Rattle.std.specs.Prelude.{ℕ, zero, suc, ◌+◌, ◌*◌, ◌<◌, ◌≤◌, ◌≡◌, Bool, true, false, ltb, List, [], T, length, get_or, take, drop}
+use Rattle.std.specs.Simd.{first_chunks}
+use Rattle.std.specs.List.Sorted.{IsPartitionedBy, IsPartitionPoint}
 use Rattle.std.proofs.Common.{sym, ap, subst, ◌∙◌, inl, inr, arith, zero-add}
+use Rattle.std.proofs.lemmas.Bool.{lt-ltb, ltb-true, ltb-false}
+use Rattle.std.proofs.lemmas.List.{get_or-take, get_or-drop}
 use Rattle.std.proofs.Math.Decide.{dec_lt, ℕ_discrete}
 use Rattle.document.specs.Limits.{width, kept_stride}
 use Rattle.document.specs.Combinations.{precedes}
@@ -31,57 +35,47 @@ rising_of next states e m b kept u = record {
 
 -- The search -----------------------------------------------------------------------------------------------------------
 
-pub record Narrowing (m : ℕ) (t : List ℕ) (first : ℕ) (low high : ℕ) : Type 0 where
-  pub table : Rising m t
-  pub between : low ≤ high
-  pub within : high ≤ m
-  pub below : (k : ℕ) → k < low → get_or t (k * kept_stride) 0 < first
-  pub above : (k : ℕ) → high ≤ k → k < m → first ≤ get_or t (k * kept_stride) 0
+-- the numbers of a table in rows: number j of row i
+number_in_row : (n k : ℕ) (t : List ℕ) (i j : ℕ) (d : List ℕ) → i < k → j < n → get_or (get_or (first_chunks n k t) i d) j 0 ≡ get_or t (i * n + j) 0
+number_in_row n zero t i j d h g = absurd (omega arith)
+number_in_row n (suc k) t zero j d h g = let e : j ≡ 0 * n + j = omega arith in get_or-take n t j 0 g ∙ ap (λ (x : ℕ). get_or t x 0) e
+number_in_row n (suc k) t (suc i) j d h g =
+    let e : n + (i * n + j) ≡ suc i * n + j = omega arith in
+    number_in_row n k (drop n t) i j d (omega arith) g ∙ get_or-drop n t (i * n + j) 0 ∙ ap (λ (x : ℕ). get_or t x 0) e
 
-pub narrowing_begins : (m : ℕ) (t : List ℕ) (first : ℕ) → Rising m t → Narrowing m t first 0 m
-narrowing_begins m t first u = record {
-  table = u;
-  between = omega arith;
-  within = omega arith;
-  below = λ k h. absurd (omega arith);
-  above = λ k h g. absurd (omega arith);
-}
+first_in_row : (m k : ℕ) (t : List ℕ) (rows : List (List ℕ)) → rows ≡ first_chunks kept_stride k t → (i : ℕ) (d : List ℕ) → m ≤ k → i < m
+    → get_or (get_or (take m rows) i d) 0 0 ≡ get_or t (i * kept_stride) 0
+first_in_row m k t rows q i d h g =
+    let e : i * kept_stride + 0 ≡ i * kept_stride = omega arith in
+    ap (λ (x : List ℕ). get_or x 0 0) (get_or-take m rows i d g ∙ ap (λ (x : List (List ℕ)). get_or x i d) q)
+    ∙ number_in_row kept_stride k t i 0 d (omega arith) (omega arith)
+    ∙ ap (λ (x : ℕ). get_or t x 0) e
+
+-- whether a row begins with a number below this one
+abbrev pub Below : ℕ → List ℕ → Bool
+Below least row = ltb (get_or row 0 0) least
+
+module _ (m k : ℕ) (t : List ℕ) (least : ℕ) (rows : List (List ℕ)) (e : rows ≡ first_chunks kept_stride k t) (h : m ≤ k) (o : length (take m rows) ≡ m) where
+  pub rows_part : Rising m t → IsPartitionedBy (Below least) (take m rows)
+  rows_part u i j d g l q =
+      let a = first_in_row m k t rows e i d h (omega arith) in
+      let b = first_in_row m k t rows e j d h (omega arith) in
+      let z = ltb-true (get_or t (j * kept_stride) 0) least (rw b at q) in
+      elim (ℕ_discrete i j) [
+        | yes y ↦ rw y q
+        | no n ↦ let r = u.rise i j (omega arith) (omega arith) in rw a (lt-ltb (get_or t (i * kept_stride) 0) least (omega arith))
+      ]
+
+  pub begins_of : (r : ℕ) → r ≤ length (take m rows) → IsPartitionPoint (λ y. Below least y ≡ true) (λ y. Below least y ≡ false) (take m rows) r → Begins m t least r
+  begins_of r g p = record {
+    within = omega arith;
+    low = λ i l. let q = p.0 i [] (omega arith) l in ltb-true (get_or t (i * kept_stride) 0) least (rw (first_in_row m k t rows e i [] h (omega arith)) at q);
+    high = λ i l n. let q = p.1 i [] l (omega arith) in ltb-false (get_or t (i * kept_stride) 0) least (rw (first_in_row m k t rows e i [] h n) at q);
+  }
 
 -- where the binding does not bind the first parameter
 pub begins_unbound : (m : ℕ) (t : List ℕ) (first : ℕ) → first ≡ 0 → Begins m t first 0
 begins_unbound m t first q = record { within = omega arith; low = λ k h. absurd (omega arith); high = λ k h g. omega arith }
-
-module _ (m : ℕ) (t : List ℕ) (first : ℕ) (low high middle : ℕ) where
-  pub narrowing_up : Narrowing m t first low high → low ≤ middle → middle < high → (x : ℕ) → x ≡ get_or t (middle * kept_stride) 0 → x < first → Narrowing m t first (middle + 1) high
-  narrowing_up s l h x e q = record {
-    table = s.table;
-    between = omega arith;
-    within = s.within;
-    below = λ k g. elim (ℕ_discrete k middle) [
-      | yes z ↦ rw (z, ← e) q
-      | no z ↦ let r = s.table.rise k middle (omega arith) (let w = s.within in omega arith) in omega arith
-    ];
-    above = s.above;
-  }
-
-  pub narrowing_down : Narrowing m t first low high → low ≤ middle → middle < high → (x : ℕ) → x ≡ get_or t (middle * kept_stride) 0 → first ≤ x → Narrowing m t first low middle
-  narrowing_down s l h x e q = record {
-    table = s.table;
-    between = l;
-    within = let w = s.within in omega arith;
-    below = s.below;
-    above = λ k g i. elim (ℕ_discrete k middle) [
-      | yes z ↦ rw (z, ← e) q
-      | no z ↦ let r = s.table.rise middle k (omega arith) i in omega arith
-    ];
-  }
-
-pub narrowing_ends : (m : ℕ) (t : List ℕ) (first : ℕ) (low high : ℕ) → Narrowing m t first low high → high ≤ low → Begins m t first low
-narrowing_ends m t first low high s h = record {
-  within = let x = s.between in let w = s.within in omega arith;
-  low = s.below;
-  high = λ k g i. s.above k (omega arith) i;
-}
 
 -- Its two answers ------------------------------------------------------------------------------------------------------
 

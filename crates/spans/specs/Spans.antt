@@ -54,8 +54,8 @@ pub record NextFound (t : List ℕ) (from end parameter number r : ℕ) : Type 0
   pub passed : (k : ℕ) → from ≤ k → k < r → get_or t (k * kept_stride + parameter) 0 ≡ number → ⊥
   pub found : r < end → get_or t (r * kept_stride + parameter) 0 ≡ number
 
-pub record Agrees (t : List ℕ) (at : ℕ) (b : List ℕ) (last : ℕ) (r : Bool) : Type 0 where
-  pub yes : r ≡ true → (j : ℕ) → 0 < j → j < last → Agree t at b j
+pub record Agrees (t : List ℕ) (at : ℕ) (b : List ℕ) (from to : ℕ) (r : Bool) : Type 0 where
+  pub yes : r ≡ true → (j : ℕ) → from ≤ j → j < to → Agree t at b j
   pub no : r ≡ false → includes (numbers_at width t at) b ≡ false
 
 -- m kept rows in order, each in one of the states

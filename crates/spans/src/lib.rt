@@ -7,7 +7,7 @@ ghost use Rattle.std.specs.Prelude.{◌+◌, ◌*◌, ◌<◌, ◌≤◌, length
 ghost use Rattle.document.specs.Limits.{width, kept_stride};
 ghost use Rattle.spans.specs.Spans.{Rising, Begins, Ends, LastBound, Agrees, NextFound};
 
-use limits::{Combination, KEPT_STRIDE, WIDTH};
+use limits::{Combination, KEPT_STRIDE};
 
 // Where the rows stand that may include the binding ---------------------------------------------------------------------
 
@@ -16,20 +16,11 @@ pub fn first_place(kept: &[u32], m: usize, least: usize) -> usize
     requires { Rising m kept.now }
     ensures { Begins m kept.now least result }
 {
-    let mut low: usize = 0;
     if least == 0 {
-        return low;
+        return 0;
     }
-    let mut high = m;
-    while low < high {
-        let middle = low + (high - low) / 2;
-        if moves::wide(kept[middle * KEPT_STRIDE]) < least {
-            low = middle + 1;
-        } else {
-            high = middle;
-        }
-    }
-    low
+    let (rows, _) = kept.as_chunks::<KEPT_STRIDE>();
+    rows[..m].partition_point(|row| (row[0] as usize) < least)
 }
 
 // The row after those that begin with the binding's first number; after all, where it does not bind the first parameter.
@@ -40,7 +31,7 @@ pub fn end_place(kept: &[u32], m: usize, first: u32) -> usize
     if first == 0 {
         return m;
     }
-    first_place(kept, m, moves::wide(first) + 1)
+    first_place(kept, m, first as usize + 1)
 }
 
 // Which of them include it ----------------------------------------------------------------------------------------------
@@ -49,47 +40,24 @@ pub fn end_place(kept: &[u32], m: usize, first: u32) -> usize
 pub fn last_bound(b: Combination) -> usize
     ensures { LastBound b result }
 {
-    let mut j: usize = WIDTH - 1;
-    while 0 < j {
-        if b[j] != 0 {
-            return j;
-        }
-        j -= 1;
-    }
-    j
+    b.iter().rposition(|&x| x != 0).unwrap_or(0)
 }
 
 // The next row, from a row on and before the end, that has a number at a parameter; or the end.
+// Stays: the end where there is none, which is the row that the caller goes on from.
 pub fn next_with(kept: &[u32], from: usize, end: usize, parameter: usize, number: u32) -> usize
     requires { (from ≤ end) × (end * kept_stride ≤ length kept.now) × (parameter < width) }
     ensures { NextFound kept.now from end parameter number result }
 {
-    let mut i = from;
-    while i < end {
-        if kept[i * KEPT_STRIDE + parameter] == number {
-            return i;
-        }
-        i += 1;
-    }
-    i
+    (from..end)
+        .find(|&i| kept[i * KEPT_STRIDE + parameter] == number)
+        .unwrap_or(end)
 }
 
-// Whether a row agrees with the binding at the parameters between the first and this one.
-pub fn agrees(kept: &[u32], at: usize, b: Combination, last: usize) -> bool
-    requires { (at + width ≤ length kept.now) × (last < width) }
-    ensures { Agrees kept.now at b last result }
+// Whether a row agrees with the binding at the parameters from one up to another: it has their numbers where they are bound.
+pub fn agrees(kept: &[u32], at: usize, b: Combination, from: usize, to: usize) -> bool
+    requires { (at + width ≤ length kept.now) × (to ≤ width) }
+    ensures { Agrees kept.now at b from to result }
 {
-    let mut j: usize = 1;
-    while j < last {
-        let y = b[j];
-        if y == 0 {
-            j += 1;
-        } else {
-            if kept[at + j] != y {
-                return false;
-            }
-            j += 1;
-        }
-    }
-    true
+    (from..to).all(|j| b[j] == 0 || kept[at + j] == b[j])
 }

@@ -1,9 +1,10 @@
 -- Laws of the whole table: a shape has the lists of the pattern that it is the shape of, its table is the definition's, and the
 -- property table has its fields.
 -- Assumes nothing.
-use Rattle.std.specs.Prelude.{ℕ, zero, suc, ◌≤◌, ◌<◌, ◌≡◌, refl, Bool, false, cond, List, [], ◌∷◌, length, get_or, take, set, ltb}
-use Rattle.std.proofs.Common.{arith, sym, ap, ◌∙◌, inl, inr, get_or-take, get_or-set_same, get_or-set_other, length-take-le, lt-ltb, le-ltb, ltb-true, ltb-false}
+use Rattle.std.specs.Prelude.{ℕ, zero, suc, ◌≤◌, ◌<◌, ◌≡◌, refl, Bool, true, false, cond, List, [], ◌∷◌, length, get_or, take, set, ltb, None, Some}
+use Rattle.std.proofs.Common.{arith, sym, ap, ◌∙◌, inl, inr, get_or-set_same, get_or-set_other, length-take-le, lt-ltb, le-ltb, ltb-true, ltb-false}
 use mathlib.Core.List as list
+use Rattle.std.proofs.lemmas.Option.{none-some, same_Some}
 use Rattle.document.specs.Lists.{tabulate}
 use Rattle.document.specs.Limits.{most_events, most_states}
 use Rattle.document.specs.Patterns.{Pattern}
@@ -14,8 +15,8 @@ use Rattle.sets.specs.declared.Shape.{Shape}
 use Rattle.sets.specs.Shapes.{shape_of}
 use Rattle.growing.specs.declared.Grown.{Grown}
 use Rattle.states.specs.declared.Table.{Table}
-use Rattle.growing.specs.Growing.{Reads, Grows}
-use Rattle.states.specs.Tabling.{verdict_from, verdicts_from, too_many, table_of, Tabled}
+use Rattle.growing.specs.Growing.{Reads, AllStates, TooMany}
+use Rattle.states.specs.Tabling.{verdict_from, verdicts_from, table_of, Tabled}
 use Rattle.document.specs.Declarations.{Declared}
 use Rattle.document.specs.Reading.{Parsed}
 use Rattle.document.specs.Translate.{property_of}
@@ -52,47 +53,52 @@ verdict-is : (shape : Shape) (p : Pattern) (s : ℕ) → shape ≡ shape_of p �
 unfolding shape_of verdict_from verdict_of
 verdict-is shape p s q = ap (λ (x : Shape). verdict_from x.null x.last s) q
 
-verdicts_are : (shape : Shape) (p : Pattern) (n : ℕ) (sets : List ℕ) → shape ≡ shape_of p → length (take n sets) ≡ n
-    → verdicts_from shape.null shape.last n sets ≡ tabulate most_states (λ s. get_or (list.map (verdict_of p) (take n sets)) s 0)
+verdicts_are : (shape : Shape) (p : Pattern) (sets : List ℕ) → shape ≡ shape_of p
+    → verdicts_from shape.null shape.last (length sets) sets ≡ tabulate most_states (λ s. get_or (list.map (verdict_of p) sets) s 0)
 unfolding verdicts_from
-verdicts_are shape p n sets q l = tabulate_same most_states _ _ (λ s h. elim (decided (ltb s n)) [
-  | inl e ↦
-      let b = ltb-true s n e in
-      rw e (verdict-is shape p (get_or sets s 0) q ∙ sym (map_at (verdict_of p) (take n sets) s (omega arith) ∙ ap (verdict_of p) (get_or-take n sets s 0 b)))
-  | inr e ↦ let b = ltb-false s n e in rw e (sym (map_past (verdict_of p) (take n sets) s (omega arith)))
+verdicts_are shape p sets q = tabulate_same most_states _ _ (λ s h. elim (decided (ltb s (length sets))) [
+  | inl e ↦ rw e (verdict-is shape p (get_or sets s 0) q ∙ sym (map_at (verdict_of p) sets s (ltb-true s (length sets) e)))
+  | inr e ↦ rw e (sym (map_past (verdict_of p) sets s (ltb-false s (length sets) e)))
 ])
 
-pub tabled_over : (shape : Shape) (m base : ℕ) (g : Grown) → Grows (set shape.follow 0 shape.first) shape.named base m g
-    → most_states < g.count → Tabled shape m base too_many
+pub tabled_none : (shape : Shape) (m base : ℕ) → TooMany (set shape.follow 0 shape.first) shape.named base m → Tabled shape m base None
 unfolding table_of
-tabled_over shape m base g w h = record {
+tabled_none shape m base w = record {
   says = λ p anew q b.
-      rw (lt-ltb most_states (length (states_of anew p m).sets) (w.over h p anew (shape_reads shape base p anew q b)));
+      rw (lt-ltb most_states (length (states_of anew p m).sets) (w.over p anew (shape_reads shape base p anew q b)));
 }
 
-pub tabled_all : (shape : Shape) (m base : ℕ) (g : Grown) (verdicts : List ℕ) → Grows (set shape.follow 0 shape.first) shape.named base m g
-    → g.count ≤ most_states → verdicts ≡ verdicts_from shape.null shape.last g.count g.sets
-    → Tabled shape m base (record { over = false; states = g.count; next = g.next; verdicts = verdicts })
+pub tabled_some : (shape : Shape) (m base : ℕ) (g : Grown) (verdicts : List ℕ) → AllStates (set shape.follow 0 shape.first) shape.named base m g
+    → verdicts ≡ verdicts_from shape.null shape.last (length (take g.count g.sets)) (take g.count g.sets)
+    → Tabled shape m base (Some (record { states = g.count; next = g.next; verdicts = verdicts }))
 unfolding table_of
-tabled_all shape m base g verdicts w h v = record {
+tabled_some shape m base g verdicts w v = record {
   says = λ p anew q b.
       let r = shape_reads shape base p anew q b in
-      let s = w.sets h p anew r in
+      let s = w.sets p anew r in
       let long = w.long in
+      let few = w.few in
       let c : length (take g.count g.sets) ≡ g.count = length-take-le g.count g.sets (omega arith) in
       let d : length (states_of anew p m).sets ≡ g.count = sym (ap length s) ∙ c in
-      rw (le-ltb most_states (length (states_of anew p m).sets) (omega arith), ← w.next h p anew r, d, ← s, v ∙ verdicts_are shape p g.count g.sets q c);
+      rw (le-ltb most_states (length (states_of anew p m).sets) (omega arith), ← w.next p anew r, d, ← s, v ∙ verdicts_are shape p (take g.count g.sets) q);
 }
 
--- What a translator needs: whether there are too many states (refusal 10), and the property table by its fields.
-pub table_over : (p : Pattern) (g : Found) (r : Table) → r ≡ table_of p g → r.over ≡ ltb most_states (length g.sets)
+-- What a translator needs: no table where there are too many states (refusal 10), and else the property table by its fields.
+pub table_over : (p : Pattern) (g : Found) → None ≡ table_of p g → ltb most_states (length g.sets) ≡ true
 unfolding table_of
-table_over p g r q = elim (decided (ltb most_states (length g.sets))) [
-  | inl e ↦ ap (λ (x : Table). x.over) q ∙ rw e
-  | inr e ↦ ap (λ (x : Table). x.over) q ∙ rw e
+table_over p g q = elim (decided (ltb most_states (length g.sets))) [
+  | inl e ↦ e
+  | inr e ↦ absurd (none-some _ (rw e at q))
 ]
 
-pub table_property : (d : Declared) (t : Parsed) (g : Found) (r : Table) → r ≡ table_of t.pattern g → r.over ≡ false
+pub table_fits : (p : Pattern) (g : Found) (r : Table) → Some r ≡ table_of p g → ltb most_states (length g.sets) ≡ false
+unfolding table_of
+table_fits p g r q = elim (decided (ltb most_states (length g.sets))) [
+  | inl e ↦ absurd (none-some r (sym (rw e at q)))
+  | inr e ↦ e
+]
+
+pub table_property : (d : Declared) (t : Parsed) (g : Found) (r : Table) → Some r ≡ table_of t.pattern g
     → property_of d t g ≡ record {
       parameters = length d.parameters;
       events = length d.events;
@@ -103,5 +109,6 @@ pub table_property : (d : Declared) (t : Parsed) (g : Found) (r : Table) → r �
       verdicts = r.verdicts;
     }
 unfolding table_of property_of
-table_property d t g r q o = let e : ltb most_states (length g.sets) ≡ false = sym (table_over t.pattern g r q) ∙ o in
-    rw (q, e)
+table_property d t g r q =
+    let z = same_Some _ _ (rw (table_fits t.pattern g r q) at q) in
+    rw z

@@ -1,37 +1,12 @@
 -- Laws of the verdict of a set, and of the loop over all sets.
 -- Assumes nothing.
-use Rattle.std.specs.Prelude.{ℕ, ◌+◌, ◌≤◌, ◌<◌, ◌≡◌, refl, Bool, true, false, cond, ◌&&◌, List, length, get_or, set, replicate, ltb}
-use Rattle.std.proofs.Common.{arith, sym, ap, ◌∙◌, length-set, get_or-set_same, get_or-set_other, eq-eqb, ne_eqb, lt-ltb, le-ltb, ltb-true, ltb-false}
+use Rattle.std.specs.Prelude.{ℕ, ◌+◌, ◌≤◌, ◌<◌, ◌≡◌, refl, Bool, true, false, cond, List, length, get_or, set, replicate, ltb}
+use Rattle.std.proofs.Common.{arith, sym, ap, ◌∙◌, length-set, get_or-set_same, get_or-set_other, lt-ltb, le-ltb, ltb-true, ltb-false}
 use Rattle.std.proofs.Math.Decide.{ℕ_discrete}
-use Rattle.std.proofs.Math.Bool.{or-true}
 use Rattle.std.proofs.lemmas.List.{get_or-replicate}
-use Rattle.std.specs.Int.Bits.{bit_and}
 use Rattle.document.specs.Limits.{most_states}
-use Rattle.document.specs.Positions.{holds}
 use Rattle.sets.specs.ShapesLaws.{tabulate-is}
 use Rattle.states.specs.Tabling.{verdict_from, verdicts_from}
-
--- The returns of a set's verdict.
-pub verdict-start : (null a b : Bool) (last s : ℕ) → a ≡ holds s 0 → b ≡ a && null → b ≡ true → 1 ≡ verdict_from null last s
-unfolding verdict_from
-verdict-start null a b last s p q t = let e : holds s 0 && null ≡ true = rw (← p) (sym q ∙ t) in rw e
-
-pub verdict_ends : (null a b : Bool) (last s : ℕ) → a ≡ holds s 0 → b ≡ a && null → b ≡ false → (bit_and s last ≡ 0 → ⊥) → 1 ≡ verdict_from null last s
-unfolding verdict_from
-verdict_ends null a b last s p q t n = rw (ne_eqb (bit_and s last) 0 n, or-true (holds s 0 && null))
-
-pub verdict-fail : (null a b : Bool) (last s : ℕ) → a ≡ holds s 0 → b ≡ a && null → b ≡ false → bit_and s last ≡ 0 → s ≡ 0 → 2 ≡ verdict_from null last s
-unfolding verdict_from
-verdict-fail null a b last s p q t n z =
-    let e : holds s 0 && null ≡ false = rw (← p) (sym q ∙ t) in
-    rw (e, eq-eqb (bit_and s last) 0 n, eq-eqb s 0 z)
-
-pub verdict_open : (null a b : Bool) (last s : ℕ) → a ≡ holds s 0 → b ≡ a && null → b ≡ false → bit_and s last ≡ 0 → (s ≡ 0 → ⊥)
-    → 0 ≡ verdict_from null last s
-unfolding verdict_from
-verdict_open null a b last s p q t n z =
-    let e : holds s 0 && null ≡ false = rw (← p) (sym q ∙ t) in
-    rw (e, eq-eqb (bit_and s last) 0 n, ne_eqb s 0 z)
 
 -- The verdicts, one state more.
 pub record Judged (null : Bool) (last : ℕ) (sets : List ℕ) (n : ℕ) (r : List ℕ) : Type 0 where

@@ -1,8 +1,8 @@
 -- The answer of a step: refused for want of room with nothing altered, or written down; in one pass where the event creates
 -- nothing.
 -- Assumes nothing.
-use Rattle.std.specs.Prelude.{ℕ, ◌≡◌, refl, Bool, true, false, cond, not, ◌&&◌, List, length, drop, ltb}
-use Rattle.std.proofs.Common.{sym, ◌∙◌, arith}
+use Rattle.std.specs.Prelude.{ℕ, ◌≡◌, refl, Bool, true, false, cond, not, ◌&&◌, List, length, drop, ltb, Result, Ok, Err, is_ok}
+use Rattle.std.proofs.Common.{sym, ◌∙◌}
 use Rattle.std.proofs.Math.Path.{ap}
 use borrow.Author.Tests.{ltb-false}
 use Rattle.document.specs.Refusals.{number, noRoomForSeen, noRoomForKept, noRoomForReports, Answer, taken, refuse_if}
@@ -13,7 +13,11 @@ use Rattle.document.specs.Tables.{seen_rows, kept_rows, seen_room, kept_room, re
 use Rattle.judge.specs.Sound.{session_of}
 use Rattle.moves.specs.Steps.{is_new, step_of, state_in, outcome_by}
 use Rattle.moves.specs.Ready.{Steady}
-use Rattle.foreseen.specs.Foreseen.{room_refusal, counted, foreseen_of}
+use Rattle.refusals.specs.declared.Refusal.{Refusal}
+use Rattle.refusals.specs.declared.Refusal.TheVariants.{NoRoomForSeen, NoRoomForKept, NoRoomForReports}
+use Rattle.refusals.specs.Named.{named, number_of}
+use Rattle.slices.specs.TestsLaws.{so}
+use Rattle.foreseen.specs.Foreseen.{room_refusal, unless_refused, counted, foreseen_of}
 use Rattle.foreseen.specs.declared.Foreseen.{Foreseen}
 use Rattle.writing.specs.Writing.{written_by, Tellable, WrittenDown}
 use Rattle.advance.specs.Advancing.{Advances}
@@ -24,51 +28,58 @@ use Rattle.steps.specs.Steps.{within_rooms_by, step_by, answered, Leaves}
 abbrev rooms : Bool → Bool → Bool → Happened → Answer Happened
 rooms x y z h = refuse_if x noRoomForSeen (refuse_if y noRoomForKept (refuse_if z noRoomForReports (taken h)))
 
-abbrev refusal : Bool → Bool → Bool → ℕ
-refusal x y z = cond x (number noRoomForSeen) (cond y (number noRoomForKept) (cond z (number noRoomForReports) 0))
+abbrev refusal : Bool → Bool → Bool → Result (Unit {0}) Refusal
+refusal x y z = cond x (Err NoRoomForSeen) (cond y (Err NoRoomForKept) (cond z (Err NoRoomForReports) (Ok tt)))
 
-rooms_refused : (x y z : Bool) (h : Happened) (s : Session) (reports : List ℕ) → (refusal x y z ≡ 0 → ⊥)
-    → Leaves (rooms x y z h) s reports (record { refusal = refusal x y z; seen = s.seen_count; kept = s.kept_count; reported = 0 }) s.seen s.kept reports
+rooms_refused : (x y z : Bool) (h : Happened) (s : Session) (reports : List ℕ) (o : Foreseen) (r : Refusal) → Err r ≡ unless_refused (refusal x y z) o
+    → Leaves (rooms x y z h) s reports (record { refusal = number (named r); seen = s.seen_count; kept = s.kept_count; reported = 0 }) s.seen s.kept reports
 unfolding answered leaves
-rooms_refused true y z h s reports n = record { says = refl; seen_left = refl; kept_left = refl; reports_left = refl }
-rooms_refused false true z h s reports n = record { says = refl; seen_left = refl; kept_left = refl; reports_left = refl }
-rooms_refused false false true h s reports n = record { says = refl; seen_left = refl; kept_left = refl; reports_left = refl }
-rooms_refused false false false h s reports n = absurd (n refl)
+rooms_refused true y z h s reports o r q = rw (ap number_of q) (record { says = refl; seen_left = refl; kept_left = refl; reports_left = refl })
+rooms_refused false true z h s reports o r q = rw (ap number_of q) (record { says = refl; seen_left = refl; kept_left = refl; reports_left = refl })
+rooms_refused false false true h s reports o r q = rw (ap number_of q) (record { says = refl; seen_left = refl; kept_left = refl; reports_left = refl })
+rooms_refused false false false h s reports o r q = absurd (so (ap is_ok q))
 
-rooms_taken : (x y z : Bool) → refusal x y z ≡ 0 → (x ≡ false) × (y ≡ false) × (z ≡ false)
-rooms_taken true y z e = absurd (omega arith)
-rooms_taken false true z e = absurd (omega arith)
-rooms_taken false false true e = absurd (omega arith)
-rooms_taken false false false e = (refl, refl, refl)
+abbrev given : Foreseen → Result Foreseen Refusal → Foreseen
+given d (Ok o) = o
+given d (Err r) = d
 
-module _ (next verdicts : List ℕ) (states hopes asks e n m from : ℕ) (b seen kept reports : List ℕ) (o : Foreseen)
-    (q : o ≡ foreseen_of next hopes asks from n m seen kept reports e b) where
+rooms_taken : (x y z : Bool) (o f : Foreseen) → Ok o ≡ unless_refused (refusal x y z) f → (x ≡ false) × (y ≡ false) × (z ≡ false) × (o ≡ f)
+rooms_taken true y z o f q = absurd (so (sym (ap is_ok q)))
+rooms_taken false true z o f q = absurd (so (sym (ap is_ok q)))
+rooms_taken false false true o f q = absurd (so (sym (ap is_ok q)))
+rooms_taken false false false o f q = (refl, refl, refl, ap (given f) q)
+
+module _ (next verdicts : List ℕ) (hopes asks e n m from : ℕ) (b seen kept reports : List ℕ) where
   abbrev s₀ : Session
   s₀ = session_of n m seen kept
 
   abbrev c₀ : Outcome
   c₀ = outcome_by next hopes asks (seen_rows n seen) (kept_rows m kept) e b
 
-  is-refusal : o.refusal ≡ refusal (ltb (seen_room seen) (length c₀.seen)) (ltb (kept_room kept) (length c₀.kept)) (ltb (report_room (drop from reports)) (length c₀.rows))
+  abbrev f₀ : Foreseen
+  f₀ = record { seen = length c₀.seen; kept = length c₀.kept; reported = length c₀.rows; fresh = is_new b (seen_rows n seen) }
+
+  is-foreseen : foreseen_of next hopes asks from n m seen kept reports e b
+      ≡ unless_refused (refusal (ltb (seen_room seen) (length c₀.seen)) (ltb (kept_room kept) (length c₀.kept)) (ltb (report_room (drop from reports)) (length c₀.rows))) f₀
   unfolding foreseen_of counted room_refusal
-  is-refusal = ap (λ (x : Foreseen). x.refusal) q
+  is-foreseen = refl
 
-  pub step_refused : (o.refusal ≡ 0 → ⊥)
-      → Leaves (step_by next verdicts hopes asks from (session_of n m seen kept) reports e b) (session_of n m seen kept) reports (record { refusal = o.refusal; seen = n; kept = m; reported = 0 }) seen kept reports
+  pub step_refused : (r : Refusal) → Err r ≡ foreseen_of next hopes asks from n m seen kept reports e b
+      → Leaves (step_by next verdicts hopes asks from (session_of n m seen kept) reports e b) (session_of n m seen kept) reports (record { refusal = number (named r); seen = n; kept = m; reported = 0 }) seen kept reports
   unfolding step_by within_rooms_by seen_of kept_of
-  step_refused h =
-      rw is-refusal (rooms_refused (ltb (seen_room seen) (length c₀.seen)) (ltb (kept_room kept) (length c₀.kept)) (ltb (report_room (drop from reports)) (length c₀.rows))
-      (written_by verdicts from s₀ reports c₀) s₀ reports (λ z. h (is-refusal ∙ z)))
+  step_refused r q =
+      rooms_refused (ltb (seen_room seen) (length c₀.seen)) (ltb (kept_room kept) (length c₀.kept)) (ltb (report_room (drop from reports)) (length c₀.rows))
+      (written_by verdicts from s₀ reports c₀) s₀ reports f₀ r (q ∙ is-foreseen)
 
-  module _ (h : o.refusal ≡ 0) where
-    fit : (ltb (seen_room seen) (length c₀.seen) ≡ false) × (ltb (kept_room kept) (length c₀.kept) ≡ false) × (ltb (report_room (drop from reports)) (length c₀.rows) ≡ false)
-    fit = rooms_taken (ltb (seen_room seen) (length c₀.seen)) (ltb (kept_room kept) (length c₀.kept)) (ltb (report_room (drop from reports)) (length c₀.rows)) (sym is-refusal ∙ h)
+  module _ (o : Foreseen) (q : Ok o ≡ foreseen_of next hopes asks from n m seen kept reports e b) where
+    fit : (ltb (seen_room seen) (length c₀.seen) ≡ false) × (ltb (kept_room kept) (length c₀.kept) ≡ false) × (ltb (report_room (drop from reports)) (length c₀.rows) ≡ false) × (o ≡ f₀)
+    fit = rooms_taken (ltb (seen_room seen) (length c₀.seen)) (ltb (kept_room kept) (length c₀.kept)) (ltb (report_room (drop from reports)) (length c₀.rows)) o f₀ (q ∙ is-foreseen)
 
-    pub step_tellable : Steady next states e n m seen kept → length b ≡ width → Tellable next states hopes asks e n m from b seen kept reports o
-    unfolding foreseen_of counted outcome_by
-    step_tellable s w =
-        let f = ap (λ (x : Foreseen). x.fresh) q in
-        let r = ap (λ (x : Foreseen). x.reported) q in
+    pub step_tellable : (states : ℕ) → Steady next states e n m seen kept → length b ≡ width → Tellable next states hopes asks e n m from b seen kept reports o
+    unfolding outcome_by
+    step_tellable states s w =
+        let f = ap (λ (x : Foreseen). x.fresh) fit.3 in
+        let r = ap (λ (x : Foreseen). x.reported) fit.3 in
         let a = ltb-false (seen_room seen) (length (see width b (seen_rows n seen))) fit.0 in
         let k = ltb-false (kept_room kept) (length (kept_after width (step_of next) e b (seen_rows n seen) (state_in hopes) (kept_rows m kept))) fit.1 in
         let t = ltb-false (report_room (drop from reports)) (length (reports_after width (step_of next) e b (seen_rows n seen) (state_in asks) (kept_rows m kept))) fit.2 in
@@ -77,11 +88,11 @@ module _ (next verdicts : List ℕ) (states hopes asks e n m from : ℕ) (b seen
     pub step_taken : (seen' kept' reports' : List ℕ) → WrittenDown next verdicts hopes asks e n m from b seen kept reports seen' kept' reports'
         → Leaves (step_by next verdicts hopes asks from (session_of n m seen kept) reports e b) (session_of n m seen kept) reports
         (record { refusal = 0; seen = o.seen; kept = o.kept; reported = o.reported }) seen' kept' reports'
-    unfolding foreseen_of counted step_by within_rooms_by seen_of kept_of answered leaves written_by session_with outcome_by
+    unfolding step_by within_rooms_by seen_of kept_of answered leaves written_by session_with outcome_by
     step_taken seen' kept' reports' w =
-        let x = ap (λ (y : Foreseen). y.seen) q in
-        let y = ap (λ (y : Foreseen). y.kept) q in
-        let z = ap (λ (y : Foreseen). y.reported) q in
+        let x = ap (λ (y : Foreseen). y.seen) fit.3 in
+        let y = ap (λ (y : Foreseen). y.kept) fit.3 in
+        let z = ap (λ (y : Foreseen). y.reported) fit.3 in
         rw (fit.0, fit.1, fit.2) (record {
           says = λ i. record { refusal = 0; seen = x i; kept = y i; reported = z i };
           seen_left = w.seen_to;
@@ -93,12 +104,12 @@ module _ (next verdicts : List ℕ) (states hopes asks e n m from : ℕ) (b seen
 
 module _ (next verdicts : List ℕ) (states hopes asks e n m from : ℕ) (b seen kept reports : List ℕ) (f : Bool)
     (u : Steady next states e n m seen kept) (ob : length b ≡ width)
-    (q : f ≡ (not (ltb (report_room (drop from reports)) m) && not (is_new b (seen_rows n seen)))) (z : not f ≡ false) where
+    (q : f ≡ (not (ltb (report_room (drop from reports)) m) && not (is_new b (seen_rows n seen)))) (z : f ≡ true) where
   pub step_advanced : (kept' reports' : List ℕ) (a : Advanced) → length kept' ≡ length kept → length reports' ≡ length reports
       → Advances next verdicts hopes asks e m from b kept kept' reports reports' a
       → Leaves (step_by next verdicts hopes asks from (session_of n m seen kept) reports e b) (session_of n m seen kept) reports
       (record { refusal = 0; seen = n; kept = a.kept; reported = a.reported }) seen kept' reports'
   step_advanced kept' reports' a lk lr v =
-      step_taken next verdicts states hopes asks e n m from b seen kept reports (record { refusal = 0; seen = n; kept = a.kept; reported = a.reported; fresh = false })
-      (advanced_foreseen next states e n m from b seen kept reports f u ob q z verdicts hopes asks kept' reports' a lk lr v) refl seen kept' reports'
-      (advanced_down next states e n m from b seen kept reports f u ob q z verdicts hopes asks kept' reports' a lk lr v)
+      step_taken next verdicts hopes asks e n m from b seen kept reports (record { seen = n; kept = a.kept; reported = a.reported; fresh = false })
+      (advanced_foreseen next states e n m from b seen kept reports f u ob q (ap not z) verdicts hopes asks kept' reports' a lk lr v) seen kept' reports'
+      (advanced_down next states e n m from b seen kept reports f u ob q (ap not z) verdicts hopes asks kept' reports' a lk lr v)

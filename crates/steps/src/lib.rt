@@ -8,10 +8,12 @@ ghost use Rattle.judge.specs.Sound.{session_of};
 ghost use Rattle.moves.specs.Ready.{Steady};
 ghost use Rattle.steps.specs.Steps.{step_by, Leaves};
 
-use limits::{Combination, Transitions, Verdicts};
+use limits::Combination;
 use moves::Known;
+use ordered::Seen;
 
 // What a call answers: the number of refusal, or 0; the rows of both tables that count now; and the reports made.
+// Stays: a struct of C (`gorrindatz_event`), so a number stands for the refusal; `Leaves` is stated of it.
 #[repr(C)]
 #[derive(Clone, Copy)]
 pub struct Answered {
@@ -33,11 +35,13 @@ pub fn counts_alone(refusal: u8, n: usize, m: usize) -> Answered
     }
 }
 
-// Any event: worked out, then written down if there is room.
-fn foresee_then_write(
-    next: &Transitions,
-    verdicts: &Verdicts,
-    known: Known,
+// One event in a session that is sound. Where it creates nothing and cannot be refused, one pass over the kept rows does it; else
+// it is worked out, then written down if there is room.
+// Stays: the tables and their counts are parameters, since a struct of three `&mut` slices asks a clause of each one's ghost name
+// in every function, which is no plainer; so are an event's number and binding, here and where `moves::Event`, which says besides
+// whether the binding is new, is not made yet.
+pub fn step(
+    known: &Known,
     seen: &mut [u32],
     n: usize,
     kept: &mut [u32],
@@ -47,54 +51,32 @@ fn foresee_then_write(
     e: usize,
     b: Combination,
 ) -> Answered
-    requires { Steady next.now known.states e n m seen.old kept.old }
-    ensures { Leaves (step_by next.now verdicts.now known.hopeful known.asked from (session_of n m seen.old kept.old) reports.old e b) (session_of n m seen.old kept.old) reports.old result seen.new kept.new reports.new }
+    requires { Steady known.now.next known.now.states e n m seen.old kept.old }
+    ensures { Leaves (step_by known.now.next known.now.verdicts known.now.hopeful known.now.asked from (session_of n m seen.old kept.old) reports.old e b) (session_of n m seen.old kept.old) reports.old result seen.new kept.new reports.new }
 {
-    let o = foreseen::foresee(next, known, seen, n, kept, m, reports, from, e, b);
-    if o.refusal != refusals::TAKEN {
+    let before = Seen {
+        numbers: seen,
+        count: n,
+    };
+    if advance::applies(before, m, reports, from, b) {
+        let a = advance::advance(known, kept, m, reports, from, e, b);
         return Answered {
-            refusal: o.refusal,
+            refusal: 0,
             seen: n,
-            kept: m,
-            reported: 0,
+            kept: a.kept,
+            reported: a.reported,
         };
     }
-    writing::write_down(
-        next, verdicts, known, seen, n, kept, m, reports, from, e, b, o,
-    );
-    Answered {
-        refusal: refusals::TAKEN,
-        seen: o.seen,
-        kept: o.kept,
-        reported: o.reported,
-    }
-}
-
-// One event in a session that is sound. Where it creates nothing and cannot be refused, one pass over the kept rows does it.
-pub fn step(
-    next: &Transitions,
-    verdicts: &Verdicts,
-    known: Known,
-    seen: &mut [u32],
-    n: usize,
-    kept: &mut [u32],
-    m: usize,
-    reports: &mut [u32],
-    from: usize,
-    e: usize,
-    b: Combination,
-) -> Answered
-    requires { Steady next.now known.states e n m seen.old kept.old }
-    ensures { Leaves (step_by next.now verdicts.now known.hopeful known.asked from (session_of n m seen.old kept.old) reports.old e b) (session_of n m seen.old kept.old) reports.old result seen.new kept.new reports.new }
-{
-    if !advance::applies(seen, n, m, reports, from, b) {
-        return foresee_then_write(next, verdicts, known, seen, n, kept, m, reports, from, e, b);
-    }
-    let a = advance::advance(next, verdicts, known, kept, m, reports, from, e, b);
-    Answered {
-        refusal: refusals::TAKEN,
-        seen: n,
-        kept: a.kept,
-        reported: a.reported,
+    match foreseen::foresee(known, before, kept, m, reports, from, e, b) {
+        Ok(o) => {
+            writing::write_down(known, seen, n, kept, m, reports, from, e, b, o);
+            Answered {
+                refusal: 0,
+                seen: o.seen,
+                kept: o.kept,
+                reported: o.reported,
+            }
+        }
+        Err(refusal) => counts_alone(refusal.number(), n, m),
     }
 }

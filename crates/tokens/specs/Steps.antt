@@ -7,7 +7,8 @@ use Rattle.document.specs.Patterns.{match, fail}
 use Rattle.document.specs.Tokens as doc
 use Rattle.document.specs.Tokens.{word, mark, ask, no_token}
 use Rattle.tokens.specs.declared.Step.{Step}
-use Rattle.tokens.specs.Lexing.{end_kind, kind_of, lexemes_at}
+use Rattle.tokens.specs.declared.Kind.TheVariants.{End}
+use Rattle.tokens.specs.Lexing.{kind_of, lexemes_at}
 
 -- the first place from `at` on that holds no blank
 abbrev pub skip_to : List ℕ → ℕ → ℕ
@@ -35,7 +36,7 @@ pub record Stands (s : List ℕ) (at : ℕ) (r : Step) : Type 0 where
 
 -- no token is left
 pub record Ended (s : List ℕ) (at : ℕ) (r : Step) : Type 0 where
-  pub kind : r.kind ≡ end_kind
+  pub kind : r.kind ≡ End
   pub tokens : lexemes_at s at ≡ []
   pub end : at ≡ length s
 

@@ -1,11 +1,14 @@
 -- What is seen at a place: from the token there to the tokens that are left, and from its kind to the tests of the definitions.
 -- Assumes nothing.
-use Rattle.std.specs.Prelude.{ℕ, ◌+◌, ◌-◌, ◌≤◌, ◌<◌, ◌≡◌, refl, false, ◌&&◌, List, [], ◌∷◌, length, get_or, take, drop, eqb, leb, ltb}
-use Rattle.std.proofs.Common.{sym, ap, ◌∙◌, ⊎_elim, length-drop, arith, ne_eqb, leb-true, ltb-true, ltb-false}
+use Rattle.std.specs.Prelude.{ℕ, ◌+◌, ◌-◌, ◌≤◌, ◌<◌, ◌≡◌, refl, cond, false, ◌&&◌, List, [], ◌∷◌, length, get_or, take, drop, eqb, leb, ltb}
+use Rattle.std.proofs.Common.{sym, ap, ◌∙◌, ⊎_elim, length-drop, arith, ne_eqb, eqb-true, lit≤, leb-true, ltb-true, ltb-false}
+use Rattle.std.proofs.lemmas.Bool.{eqb-false}
 use Rattle.std.proofs.Math.Logic.{inl, inr}
 use Rattle.document.specs.Lists.{starts_with}
 use Rattle.document.specs.Classes.{class_of, is_name_byte, letter, at_sign, opening, plus, match_word, fail_word}
 use Rattle.document.specs.Declarations.{name_run}
+use Rattle.document.specs.Classes.{closing, colon, bar, star}
+use Rattle.document.specs.Patterns.{match}
 use Rattle.document.specs.Tokens as doc
 use Rattle.document.specs.Tokens.{word, mark, ask, no_token, ask_token, token_at, offset_of, is_mark_of, begins_atom}
 use Rattle.document.specs.Reading.{next_is}
@@ -14,7 +17,8 @@ use Rattle.basics.specs.Lists.{run-part}
 use Rattle.basics.specs.Left.{drop_here}
 use Rattle.tokens.specs.declared.Token.{Token}
 use Rattle.tokens.specs.declared.Step.{Step}
-use Rattle.tokens.specs.Lexing.{begins_kind, kind_of, word_kind, end_kind, shown, token_here, lexemes_at}
+use Rattle.tokens.specs.declared.Kind.TheVariants.{Word, AskMatch, AskFail, End}
+use Rattle.tokens.specs.Lexing.{kind_number, mark_kind, begins_kind, kind_of, shown, token_here, lexemes_at}
 use Rattle.tokens.specs.Steps.{skip_to, Begins, Sort, Stands, Looks}
 use Rattle.tokens.specs.TokensLaws.{token_size, lexemes_token, lexemes_skip, lexemes-end, skip_begins}
 
@@ -60,7 +64,7 @@ module _ (s : List ℕ) (at next : ℕ) (g : Begins s at) where
         });
       }
 
-  looks_end : length s ≤ at → next ≡ skip_to s at → Looks s at (record { kind = end_kind; end = at; next = next })
+  looks_end : length s ≤ at → next ≡ skip_to s at → Looks s at (record { kind = End; end = at; next = next })
   looks_end h q =
       let i = g.inside in
       record {
@@ -77,56 +81,90 @@ module _ (s : List ℕ) (at next : ℕ) (g : Begins s at) where
     | inr h ↦ let e' = rw h at e in rw e' (looks_end (ltb-false at (length s) h) (rw e' at q))
   ]
 
+-- a mark's number is its class
+pub mark_number : (c : ℕ) → opening ≤ c → c ≤ plus → kind_number (mark_kind c) ≡ c
+mark_number c l m = elim (decided (eqb c opening)) [
+  | inl e ↦ rw e (sym (eqb-true c opening e))
+  | inr a ↦ rw a (elim (decided (eqb c closing)) [
+    | inl e ↦ rw e (sym (eqb-true c closing e))
+    | inr b ↦ rw b (elim (decided (eqb c colon)) [
+      | inl e ↦ rw e (sym (eqb-true c colon e))
+      | inr d ↦ rw d (elim (decided (eqb c bar)) [
+        | inl e ↦ rw e (sym (eqb-true c bar e))
+        | inr f ↦ rw f (elim (decided (eqb c star)) [
+          | inl e ↦ rw e (sym (eqb-true c star e))
+          | inr g ↦ rw g (elim (decided (eqb c plus)) [
+            | inl e ↦ rw e (sym (eqb-true c plus e))
+            | inr h ↦
+                let a' = eqb-false c opening a in
+                let b' = eqb-false c closing b in
+                let d' = eqb-false c colon d in
+                let f' = eqb-false c bar f in
+                let g' = eqb-false c star g in
+                let h' = eqb-false c plus h in
+                absurd (omega arith)
+          ])
+        ])
+      ])
+    ])
+  ])
+]
+
+ask_number : (v : ℕ) → 12 ≤ kind_number (cond (eqb v match) AskMatch AskFail)
+ask_number v = elim (decided (eqb v match)) [ inl e ↦ rw e (lit≤ tt) | inr e ↦ rw e (lit≤ tt) ]
+
 -- From the kind that is seen to the tests of the definitions: a mark that is there, one that is not, a name, what begins no atom.
 module _ (s : List ℕ) (at : ℕ) (r : Step) (look : Looks s at r) where
-  pub mark_here : (k : ℕ) → opening ≤ k → k ≤ plus → r.kind ≡ k → lexemes_at s at ≡ record { token = mark k; at = at } ∷ lexemes_at s r.next
-  mark_here k l m e = ⊎_elim (λ z. absurd (let y = z.kind in omega arith)) (λ z. go z.token z.kind z.sort z.tokens) look.what
+  pub mark_here : (k : ℕ) → opening ≤ k → k ≤ plus → r.kind ≡ mark_kind k → lexemes_at s at ≡ record { token = mark k; at = at } ∷ lexemes_at s r.next
+  mark_here k l m e =
+      let n : kind_number r.kind ≡ k = ap kind_number e ∙ mark_number k l m in
+      ⊎_elim (λ z. absurd (let y = ap kind_number z.kind in omega arith)) (λ z. go z.token (sym (ap kind_number z.kind) ∙ n) z.sort z.tokens) look.what
     where
-      go : (x : doc.Token) → r.kind ≡ kind_of x → Sort (take (r.end - at) (drop at s)) x → lexemes_at s at ≡ record { token = x; at = at } ∷ lexemes_at s r.next
+      go : (x : doc.Token) → kind_number (kind_of x) ≡ k → Sort (take (r.end - at) (drop at s)) x → lexemes_at s at ≡ record { token = x; at = at } ∷ lexemes_at s r.next
           → lexemes_at s at ≡ record { token = mark k; at = at } ∷ lexemes_at s r.next
       go (word w) y z t = absurd (omega arith)
-      go (mark c) y z t = let q : c ≡ k = omega arith in rw q at t
-      go (ask v) y (inl z) t = let n = rw z at y in absurd (omega arith)
-      go (ask v) y (inr z) t = let n = rw z at y in absurd (omega arith)
+      go (mark c) y z t = let q : c ≡ k = sym (mark_number c z.0 z.1) ∙ y in rw q at t
+      go (ask v) y z t = absurd (let n = ask_number v in omega arith)
       go no_token y z t = absurd (omega arith)
 
-  pub word_here : r.kind ≡ word_kind → lexemes_at s at ≡ record { token = word (take (r.end - at) (drop at s)); at = at } ∷ lexemes_at s r.next
-  word_here e = ⊎_elim (λ z. absurd (let y = z.kind in omega arith)) (λ z. go z.token z.kind z.sort z.tokens) look.what
+  pub word_here : r.kind ≡ Word → lexemes_at s at ≡ record { token = word (take (r.end - at) (drop at s)); at = at } ∷ lexemes_at s r.next
+  word_here e =
+      let n = ap kind_number e in
+      ⊎_elim (λ z. absurd (let y = ap kind_number z.kind in omega arith)) (λ z. go z.token (sym (ap kind_number z.kind) ∙ n) z.sort z.tokens) look.what
     where
-      go : (x : doc.Token) → r.kind ≡ kind_of x → Sort (take (r.end - at) (drop at s)) x → lexemes_at s at ≡ record { token = x; at = at } ∷ lexemes_at s r.next
+      go : (x : doc.Token) → kind_number (kind_of x) ≡ 0 → Sort (take (r.end - at) (drop at s)) x → lexemes_at s at ≡ record { token = x; at = at } ∷ lexemes_at s r.next
           → lexemes_at s at ≡ record { token = word (take (r.end - at) (drop at s)); at = at } ∷ lexemes_at s r.next
       go (word w) y z t = rw z at t
-      go (mark c) y z t = absurd (omega arith)
-      go (ask v) y (inl z) t = let n = rw z at y in absurd (omega arith)
-      go (ask v) y (inr z) t = let n = rw z at y in absurd (omega arith)
+      go (mark c) y z t = absurd (let n = mark_number c z.0 z.1 in let l = z.0 in omega arith)
+      go (ask v) y z t = absurd (let n = ask_number v in omega arith)
       go no_token y z t = absurd (omega arith)
 
-  pub end_here : r.kind ≡ end_kind → (lexemes_at s at ≡ []) × (at ≡ length s)
-  end_here e = ⊎_elim (λ z. (z.tokens, z.end)) (λ z. absurd (go z.token z.kind z.sort)) look.what
+  pub end_here : r.kind ≡ End → (lexemes_at s at ≡ []) × (at ≡ length s)
+  end_here e = ⊎_elim (λ z. (z.tokens, z.end)) (λ z. absurd (go z.token (sym (ap kind_number z.kind) ∙ ap kind_number e) z.sort)) look.what
     where
-      go : (x : doc.Token) → r.kind ≡ kind_of x → Sort (take (r.end - at) (drop at s)) x → ⊥
+      go : (x : doc.Token) → kind_number (kind_of x) ≡ 15 → Sort (take (r.end - at) (drop at s)) x → ⊥
       go (word w) y z = omega arith
-      go (mark c) y z = omega arith
+      go (mark c) y z = let n = mark_number c z.0 z.1 in let l = z.1 in omega arith
       go (ask v) y (inl z) = let n = rw z at y in omega arith
       go (ask v) y (inr z) = let n = rw z at y in omega arith
       go no_token y z = omega arith
 
   -- a token that stands there is passed
-  pub step_here : (r.kind ≡ end_kind → ⊥) → Stands s at r
+  pub step_here : (r.kind ≡ End → ⊥) → Stands s at r
   step_here e = ⊎_elim (λ z. absurd (e z.kind)) (λ z. z) look.what
 
-  pub step_past : (r.kind ≡ end_kind → ⊥) → at < r.next
+  pub step_past : (r.kind ≡ End → ⊥) → at < r.next
   step_past e = (step_here e).past
 
-  pub step_fewer : (r.kind ≡ end_kind → ⊥) → length (lexemes_at s r.next) < length (lexemes_at s at)
+  pub step_fewer : (r.kind ≡ End → ⊥) → length (lexemes_at s r.next) < length (lexemes_at s at)
   step_fewer e = rw (step_here e).tokens (omega arith)
 
-  pub mark_missing : (k : ℕ) → (r.kind ≡ k → ⊥) → next_is (is_mark_of k) (lexemes_at s at) ≡ false
+  pub mark_missing : (k : ℕ) → (r.kind ≡ mark_kind k → ⊥) → next_is (is_mark_of k) (lexemes_at s at) ≡ false
   mark_missing k e = ⊎_elim (λ z. rw z.tokens) (λ z. rw z.tokens (go z.token z.kind)) look.what
     where
       go : (x : doc.Token) → r.kind ≡ kind_of x → is_mark_of k x ≡ false
       go (word w) y = refl
-      go (mark c) y = ne_eqb c k (λ q. e (y ∙ q))
+      go (mark c) y = ne_eqb c k (λ q. e (y ∙ ap mark_kind q))
       go (ask v) y = refl
       go no_token y = refl
 
@@ -135,7 +173,7 @@ module _ (s : List ℕ) (at : ℕ) (r : Step) (look : Looks s at r) where
     where
       go : (x : doc.Token) → Sort (take (r.end - at) (drop at s)) x → begins_atom x ≡ begins_kind (kind_of x)
       go (word w) z = refl
-      go (mark c) z = rw (ne_eqb c word_kind (λ (q : c ≡ 0). omega arith))
+      go (mark c) z = rw (mark_number c z.0 z.1, ne_eqb c 0 (λ (q : c ≡ 0). let l = z.0 in omega arith))
       go (ask v) (inl z) = rw z
       go (ask v) (inr z) = rw z
       go no_token z = refl

@@ -4,37 +4,69 @@
 #![tactic(auto)]
 
 ghost use Rattle.std.specs.Prelude.{◌≡◌, ◌+◌, ◌≤◌, length, drop};
-ghost use Rattle.document.specs.Lists.{starts_with, take_while};
+ghost use Rattle.document.specs.Lists.{take_while};
 ghost use Rattle.document.specs.Classes.{is_blank};
-ghost use Rattle.tokens.specs.Lexing.{ask_here, token_here, begins_kind};
+ghost use Rattle.classes.specs.Numbers.{number};
+ghost use Rattle.tokens.specs.Lexing.{mark_kind, ask_here, token_here, begins_kind};
 ghost use Rattle.tokens.specs.Steps.{Begins, Looks};
 
-// The kind of a mark is its class; the other kinds follow those numbers.
-pub const WORD: u8 = 0;
+use classes::Class;
 
-pub const ASK_MATCH: u8 = 12;
+const MATCH: &[u8] = b"match";
 
-pub const ASK_FAIL: u8 = 13;
+const FAIL: &[u8] = b"fail";
 
-pub const NO_TOKEN: u8 = 14;
+// What can stand at a place: a name, a mark, `@match` or `@fail`, what begins no token, or the text's end.
+#[derive(Clone, Copy, Debug, PartialEq, Eq)]
+pub enum Kind {
+    Word,
+    Opening,
+    Closing,
+    Colon,
+    Bar,
+    Star,
+    Plus,
+    AskMatch,
+    AskFail,
+    Nothing,
+    End,
+}
 
-pub const END: u8 = 15;
+impl Kind {
+    // The mark of a class, if it has one.
+    fn of_mark(class: Class) -> Kind
+        ensures { result ≡ mark_kind (number class) }
+    {
+        match class {
+            Class::Opening => Kind::Opening,
+            Class::Closing => Kind::Closing,
+            Class::Colon => Kind::Colon,
+            Class::Bar => Kind::Bar,
+            Class::Star => Kind::Star,
+            Class::Plus => Kind::Plus,
+            _ => Kind::Nothing,
+        }
+    }
 
-const MATCH: [u8; 5] = *b"match";
-
-const FAIL: [u8; 4] = *b"fail";
+    // Whether a repetition can begin with a token of this kind: a name, `epsilon` or `(`.
+    pub fn begins_atom(self) -> bool
+        ensures { result ≡ begins_kind self }
+    {
+        matches!(self, Kind::Word | Kind::Opening)
+    }
+}
 
 // What stands at a place: its kind, and the place after it.
 #[derive(Clone, Copy)]
 pub struct Token {
-    pub kind: u8,
+    pub kind: Kind,
     pub end: usize,
 }
 
 // The same, with the place of the token after it.
 #[derive(Clone, Copy)]
 pub struct Step {
-    pub kind: u8,
+    pub kind: Kind,
     pub end: usize,
     pub next: usize,
 }
@@ -43,34 +75,7 @@ pub struct Step {
 pub fn skip(s: &[u8], at: usize) -> usize
     ensures { result ≡ at + length (take_while is_blank (drop at s.now)) }
 {
-    let mut i = at;
-    while i < s.len() {
-        let b = s[i];
-        if !classes::is_blank(b) {
-            return i;
-        }
-        i += 1;
-    }
-    i
-}
-
-// Whether a word stands at a place.
-fn stands(word: &[u8], s: &[u8], at: usize) -> bool
-    requires { at ≤ length s.now }
-    ensures { result ≡ starts_with word.now (drop at s.now) }
-{
-    if s.len() - at < word.len() {
-        return false;
-    }
-    let mut i: usize = 0;
-    while i < word.len() {
-        let j = at + i;
-        if word[i] != s[j] {
-            return false;
-        }
-        i += 1;
-    }
-    true
+    names::run_end(s, at, classes::is_blank)
 }
 
 // What stands after an `@`.
@@ -78,21 +83,22 @@ fn ask_at(s: &[u8], at: usize) -> Token
     requires { (1 ≤ at) × (at ≤ length s.now) }
     ensures { result ≡ ask_here s.now at }
 {
-    if stands(&MATCH, s, at) {
-        return Token {
-            kind: ASK_MATCH,
-            end: at + 5,
-        };
-    }
-    if stands(&FAIL, s, at) {
-        return Token {
-            kind: ASK_FAIL,
-            end: at + 4,
-        };
-    }
-    Token {
-        kind: NO_TOKEN,
-        end: at,
+    let rest = &s[at..];
+    if rest.starts_with(MATCH) {
+        Token {
+            kind: Kind::AskMatch,
+            end: at + MATCH.len(),
+        }
+    } else if rest.starts_with(FAIL) {
+        Token {
+            kind: Kind::AskFail,
+            end: at + FAIL.len(),
+        }
+    } else {
+        Token {
+            kind: Kind::Nothing,
+            end: at,
+        }
     }
 }
 
@@ -101,44 +107,23 @@ pub fn token_at(s: &[u8], at: usize) -> Token
     ensures { result ≡ token_here s.now at }
 {
     if s.len() <= at {
-        return Token { kind: END, end: at };
-    }
-    let b = s[at];
-    let class = classes::class_of(b);
-    if class == classes::LETTER {
-        let end = names::name_end(s, at);
-        return Token { kind: WORD, end };
+        return Token {
+            kind: Kind::End,
+            end: at,
+        };
     }
     let next = at + 1;
-    if class == classes::AT_SIGN {
-        return ask_at(s, next);
-    }
-    if class < classes::OPENING {
-        return Token {
-            kind: NO_TOKEN,
+    match classes::class_of(s[at]) {
+        Class::Letter => Token {
+            kind: Kind::Word,
+            end: names::name_end(s, at),
+        },
+        Class::AtSign => ask_at(s, next),
+        class => Token {
+            kind: Kind::of_mark(class),
             end: next,
-        };
+        },
     }
-    if classes::PLUS < class {
-        return Token {
-            kind: NO_TOKEN,
-            end: next,
-        };
-    }
-    Token {
-        kind: class,
-        end: next,
-    }
-}
-
-// Whether a repetition can begin with a token of this kind: a name, `epsilon` or `(`.
-pub fn begins_atom(kind: u8) -> bool
-    ensures { result ≡ begins_kind kind }
-{
-    if kind == WORD {
-        return true;
-    }
-    kind == classes::OPENING
 }
 
 // The token at the place of one, and the place of the next: all that a reader of tokens asks of the text.
@@ -147,10 +132,9 @@ pub fn look(s: &[u8], at: usize) -> Step
     ensures { Looks s.now at result }
 {
     let t = token_at(s, at);
-    let next = skip(s, t.end);
     Step {
         kind: t.kind,
         end: t.end,
-        next,
+        next: skip(s, t.end),
     }
 }

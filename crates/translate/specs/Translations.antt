@@ -1,6 +1,6 @@
 -- What `translate` answers, by the definition's answer. Document 01, "The pattern text" and "The table".
 -- Assumes nothing.
-use Rattle.std.specs.Prelude.{ℕ, ◌*◌, ◌≡◌, List, length, replicate, ltb}
+use Rattle.std.specs.Prelude.{ℕ, ◌*◌, ◌≡◌, List, length, replicate, ltb, Result}
 use Rattle.document.specs.Limits.{most_events, most_states}
 use Rattle.document.specs.Refusals.{tooManyStates, Answer, taken, refused, refuse_if, number}
 use Rattle.document.specs.Declarations.{Declared, declarations}
@@ -10,8 +10,10 @@ use Rattle.document.specs.Property as document
 use Rattle.document.specs.Translate.{anew, property_of}
 use Rattle.readings.specs.declared.Reading.{Reading}
 use Rattle.readings.specs.Readings.{Stands}
-use Rattle.sets.specs.Shapes.{shape_of}
+use Rattle.parts.specs.declared.Stopped.{Stopped}
+use Rattle.parts.specs.Parts.{AnsweredAs}
 use Rattle.asking.specs.declared.Parsed.{Parsed}
+use Rattle.asking.specs.Texts.{parsed_of}
 use Rattle.property.specs.declared.Property.{Property}
 use Rattle.translate.specs.declared.Translated.{Translated}
 
@@ -55,6 +57,6 @@ table_for x p =
     (taken (property_of x p (states_of anew p.pattern (length x.events))))
 
 -- r is the answer for whatever declarations and pattern the two readings stand for
-pub record Tables (d : Reading) (t : Parsed) (r : Translated) : Type 0 where
-  pub says : (text : List ℕ) (x : Declared) (p : reading.Parsed) → declarations text ≡ taken x → Stands text x d
-      → t.asked ≡ p.asked → t.shape ≡ shape_of p.pattern → r ≡ translated_of (table_for x p)
+pub record Tables (d : Reading) (t : Parsed) (r : Result Property Stopped) : Type 0 where
+  pub says : (text : List ℕ) (x : Declared) (p : reading.Parsed) → declarations text ≡ taken x → Stands text x d → t ≡ parsed_of p
+      → AnsweredAs held (table_for x p) r

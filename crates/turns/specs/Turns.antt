@@ -1,12 +1,12 @@
--- One row of a run over a log held in memory, as the code takes it: from what was read and worked out once; and what the run
+-- One row of a run over a log held in memory, as the code takes it: from what the call goes by; and what the run
 -- answers, as the code's values.
 -- Assumes nothing.
 use Rattle.std.specs.Prelude.{ℕ, ◌+◌, ◌*◌, ◌^◌, ◌<◌, ◌≤◌, ◌≡◌, List, length}
 use Rattle.document.specs.Limits.{report_stride}
 use Rattle.document.specs.Refusals.{Answer, taken, refused, refusal_of}
-use Rattle.document.specs.Declarations.{Declared}
 use Rattle.document.specs.Session.{Session, Happened}
 use Rattle.document.specs.Log.{row_at, next_at, Ran, ran_to}
+use Rattle.judging.specs.declared.Judged.{Judged}
 use Rattle.turns.specs.Stepping.{row_step_by}
 use Rattle.turns.specs.declared.Ran.{Ran as Answered}
 
@@ -35,9 +35,8 @@ unfoldable pub took : List ℕ → ℕ → ℕ → Session → List ℕ → ℕ 
 took log rows at s reports count (refused q o) = ran_to rows at s reports count (refused q o)
 took log rows at s reports count (taken h) = ran_to (rows + 1) (next_at log at) h.session h.reports (count + h.reported) (taken tt)
 
-unfoldable pub turn_by : List ℕ → List ℕ → ℕ → ℕ → Declared → List ℕ → ℕ → ℕ → Session → List ℕ → ℕ → Ran
-turn_by next verdicts hopes asks d log rows at s reports count =
-    took log rows at s reports count (row_step_by next verdicts hopes asks (count * report_stride) d s reports (row_at log at))
+unfoldable pub turn_by : Judged → List ℕ → ℕ → ℕ → Session → List ℕ → ℕ → Ran
+turn_by c log rows at s reports count = took log rows at s reports count (row_step_by c (count * report_stride) s reports (row_at log at))
 
 -- a row can be taken: the reports so far lie in the numbers lent, there is a row, and one more can be counted
 pub record Onward (r : Answered) (log reports : List ℕ) : Type 0 where

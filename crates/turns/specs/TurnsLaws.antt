@@ -7,7 +7,6 @@ use Rattle.document.specs.Limits.{report_stride}
 use Rattle.document.specs.Refusals.{number, noRoomForSeen, noRoomForKept, noRoomForReports, Answer, taken, refused, refuse_if}
 use Rattle.document.specs.RefusalsLaws.{number-some}
 use Rattle.document.specs.Rows.{first_row}
-use Rattle.document.specs.Declarations.{Declared}
 use Rattle.document.specs.Session.{Session, Happened, seen_of, kept_of, leaves}
 use Rattle.document.specs.Tables.{seen_room, kept_room, report_room}
 use Rattle.document.specs.Log.{row_event, row_at, next_at, ran_to}
@@ -19,7 +18,8 @@ use Rattle.moves.specs.Steps.{outcome_by}
 use Rattle.steps.specs.declared.Answered.{Answered as Stepped}
 use Rattle.steps.specs.Steps.{within_rooms_by, step_by, answered, Leaves}
 use Rattle.turns.specs.declared.Ran.{Ran as Answered}
-use Rattle.turns.specs.Stepping.{row_step_by}
+use Rattle.judging.specs.declared.Judged.{Judged}
+use Rattle.turns.specs.Stepping.{row_step_by, read_as}
 use Rattle.turns.specs.Turns.{ran_of, RunLeaves, took, turn_by, Onward}
 use Rattle.writing.specs.Writing.{written_by}
 
@@ -86,38 +86,39 @@ step_room next verdicts hopes asks from s reports e b h l q =
     let c = m.1 in
     omega arith
 
-pub row_room : (next verdicts : List ℕ) (hopes asks from : ℕ) (d : Declared) (s : Session) (reports row : List ℕ) (h : Happened) → from ≤ length reports
-    → row_step_by next verdicts hopes asks from d s reports row ≡ taken h → from + h.reported * report_stride ≤ length reports
+pub row_room : (c : Judged) (from : ℕ) (s : Session) (reports row : List ℕ) (h : Happened) → from ≤ length reports
+    → row_step_by c from s reports row ≡ taken h → from + h.reported * report_stride ≤ length reports
 unfolding row_step_by
-row_room next verdicts hopes asks from d s reports row h l q =
-    let c = past_call (row_event d row) (λ v. step_by next verdicts hopes asks from s reports v.event v.values) h q in
-    step_room next verdicts hopes asks from s reports c.0.event c.0.values h l c.2
+row_room c from s reports row h l q =
+    let k = c.known in
+    let w = past_call (row_event (read_as c) row) (λ v. step_by k.next k.verdicts k.hopeful k.asked from s reports v.event v.values) h q in
+    step_room k.next k.verdicts k.hopeful k.asked from s reports w.0.event w.0.values h l w.2
 
-module _ (next verdicts : List ℕ) (hopes asks : ℕ) (d : Declared) (r : Answered) (log seen kept reports : List ℕ) (o : Onward r log reports)
+module _ (c : Judged) (r : Answered) (log seen kept reports : List ℕ) (o : Onward r log reports)
     (end : ℕ) (qe : end ≡ r.next + length (first_row (drop r.next log))) (x : Stepped) (seen' kept' reports' : List ℕ)
-    (v : Leaves (row_step_by next verdicts hopes asks (r.reported * report_stride) d (session_of r.seen r.kept seen kept) reports (take (end - r.next) (drop r.next log))) (session_of r.seen r.kept seen kept) reports x seen' kept' reports') where
+    (v : Leaves (row_step_by c (r.reported * report_stride) (session_of r.seen r.kept seen kept) reports (take (end - r.next) (drop r.next log))) (session_of r.seen r.kept seen kept) reports x seen' kept' reports') where
   abbrev s₀ : Session
   s₀ = session_of r.seen r.kept seen kept
 
-  stepped : Leaves (row_step_by next verdicts hopes asks (r.reported * report_stride) d s₀ reports (row_at log r.next)) s₀ reports x seen' kept' reports'
+  stepped : Leaves (row_step_by c (r.reported * report_stride) s₀ reports (row_at log r.next)) s₀ reports x seen' kept' reports'
   stepped = rw (row_is log r.next end qe) at v
 
   -- the reports lie in the numbers lent
   pub turn_adds : x.refusal ≡ 0 → r.reported + x.reported ≤ length reports
   turn_adds z =
-      let c = step_taken _ s₀ reports x seen' kept' reports' stepped z in
-      let j = row_room next verdicts hopes asks (r.reported * report_stride) d s₀ reports (row_at log r.next) c.happened o.fits c.is in
-      let e = c.reported in
+      let w = step_taken _ s₀ reports x seen' kept' reports' stepped z in
+      let j = row_room c (r.reported * report_stride) s₀ reports (row_at log r.next) w.happened o.fits w.is in
+      let e = w.reported in
       omega arith
 
   pub turn_refused : (x.refusal ≡ 0 → ⊥) → (r' : Answered)
       → r' ≡ record { refusal = x.refusal; taken = r.taken; next = r.next; seen = r.seen; kept = r.kept; reported = r.reported }
-      → RunLeaves (turn_by next verdicts hopes asks d log r.taken r.next (session_of r.seen r.kept seen kept) reports r.reported) r' seen' kept' reports'
+      → RunLeaves (turn_by c log r.taken r.next (session_of r.seen r.kept seen kept) reports r.reported) r' seen' kept' reports'
   unfolding turn_by took ran_to ran_of answered leaves
-  turn_refused z r' q' = go (row_step_by next verdicts hopes asks (r.reported * report_stride) d s₀ reports (row_at log r.next)) refl stepped
+  turn_refused z r' q' = go (row_step_by c (r.reported * report_stride) s₀ reports (row_at log r.next)) refl stepped
     where
-      go : (a : Answer Happened) → row_step_by next verdicts hopes asks (r.reported * report_stride) d s₀ reports (row_at log r.next) ≡ a → Leaves a s₀ reports x seen' kept' reports'
-          → RunLeaves (turn_by next verdicts hopes asks d log r.taken r.next s₀ reports r.reported) r' seen' kept' reports'
+      go : (a : Answer Happened) → row_step_by c (r.reported * report_stride) s₀ reports (row_at log r.next) ≡ a → Leaves a s₀ reports x seen' kept' reports'
+          → RunLeaves (turn_by c log r.taken r.next s₀ reports r.reported) r' seen' kept' reports'
       go (taken h) e u = absurd (z (ap (λ (y : Stepped). y.refusal) u.says))
       go (refused q i) e u =
           let n : x.refusal ≡ number q = ap (λ (y : Stepped). y.refusal) u.says in
@@ -130,18 +131,18 @@ module _ (next verdicts : List ℕ) (hopes asks : ℕ) (d : Declared) (r : Answe
 
   pub turn_taken : (nx : ℕ) → nx ≡ next_at log end → x.refusal ≡ 0 → (r' : Answered)
       → r' ≡ record { refusal = 0; taken = r.taken + 1; next = nx; seen = x.seen; kept = x.kept; reported = r.reported + x.reported }
-      → RunLeaves (turn_by next verdicts hopes asks d log r.taken r.next (session_of r.seen r.kept seen kept) reports r.reported) r' seen' kept' reports'
+      → RunLeaves (turn_by c log r.taken r.next (session_of r.seen r.kept seen kept) reports r.reported) r' seen' kept' reports'
   unfolding turn_by took ran_to ran_of
   turn_taken nx qn z r' q' =
-      let c = step_taken _ s₀ reports x seen' kept' reports' stepped z in
-      let h = c.happened in
+      let w = step_taken _ s₀ reports x seen' kept' reports' stepped z in
+      let h = w.happened in
       let a : nx ≡ next_at log r.next = qn ∙ next_at_end log r.next end qe in
-      let d = c.seen_rows in
-      let f = c.kept_rows in
-      let g = c.reported in
-      rw c.is (record {
+      let d = w.seen_rows in
+      let f = w.kept_rows in
+      let g = w.reported in
+      rw w.is (record {
         says = q' ∙ (λ i. record { refusal = 0; taken = r.taken + 1; next = a i; seen = d i; kept = f i; reported = r.reported + g i });
-        seen_left = c.seen_left;
-        kept_left = c.kept_left;
-        reports_left = c.reports_left;
+        seen_left = w.seen_left;
+        kept_left = w.kept_left;
+        reports_left = w.reports_left;
       })

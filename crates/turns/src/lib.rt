@@ -7,64 +7,56 @@
 ghost use Rattle.std.specs.Prelude.{◌≡◌};
 ghost use Rattle.judge.specs.Sound.{session_of};
 ghost use Rattle.steps.specs.Steps.{Leaves};
-ghost use Rattle.entries.specs.Entries.{declared_at};
 ghost use Rattle.turns.specs.Stepping.{row_step_by, RowGoes};
 ghost use Rattle.turns.specs.Turns.{RunLeaves, turn_by, Onward};
 
-use limits::{EventSets, KEPT_STRIDE, Places, Transitions, Verdicts};
-use moves::Known;
+use judging::Judged;
+use limits::KEPT_STRIDE;
+use places::Names;
 use steps::Answered;
 
 // One row into a session that is sound: 18 to 21, then 15 to 17.
-pub fn step_row<'a, 'b, 'c>(
-    text: &'a [u8],
-    starts: &'b Places,
-    sizes: &'b Places,
-    sets: &'b EventSets,
-    events: usize,
-    next: &'b Transitions,
-    verdicts: &'b Verdicts,
-    known: Known,
+// Stays: the tables and their counts are parameters, as those of `steps::step`.
+pub fn step_row(
+    call: &Judged,
     seen: &mut [u32],
     n: usize,
     kept: &mut [u32],
     m: usize,
     reports: &mut [u32],
     from: usize,
-    row: &'c [u8],
+    row: &[u8],
 ) -> Answered
-    requires { RowGoes text.now starts.now sizes.now events known.parameters next.now known.states n m seen.old kept.old }
-    ensures { Leaves (row_step_by next.now verdicts.now known.hopeful known.asked from (declared_at text.now starts.now sizes.now sets.now events known.parameters) (session_of n m seen.old kept.old) reports.old row.now) (session_of n m seen.old kept.old) reports.old result seen.new kept.new reports.new }
+    requires { RowGoes call.now n m seen.old kept.old }
+    ensures { Leaves (row_step_by call.now from (session_of n m seen.old kept.old) reports.old row.now) (session_of n m seen.old kept.old) reports.old result seen.new kept.new reports.new }
 {
-    let entry = entries::read_row(text, starts, sizes, sets, events, known.parameters, row);
-    if entry.refusal != refusals::TAKEN {
-        return Answered {
-            refusal: entry.refusal,
-            seen: n,
-            kept: m,
-            reported: 0,
-        };
+    let reading = &call.reading;
+    let names = Names {
+        text: call.declarations,
+        places: &reading.places,
+        count: reading.events,
+    };
+    match entries::read_row(&names, &reading.sets, reading.parameters, row) {
+        Ok(entry) => steps::step(
+            &call.known,
+            seen,
+            n,
+            kept,
+            m,
+            reports,
+            from,
+            entry.event,
+            entry.values,
+        ),
+        Err(refusal) => steps::counts_alone(refusal.number(), n, m),
     }
-    let values = entry.values;
-    steps::step(
-        next,
-        verdicts,
-        known,
-        seen,
-        n,
-        kept,
-        m,
-        reports,
-        from,
-        entry.event,
-        values,
-    )
 }
 
 // One row more of a run -------------------------------------------------------------------------------------------------
 
 // What the run answers: the number of the refusal that stopped it, or 0; the rows taken and the next offset; the rows of both
 // tables that count now; and the reports made.
+// Stays: a struct of C, so the refusal is a number.
 #[repr(C)]
 #[derive(Clone, Copy)]
 pub struct Ran {
@@ -76,74 +68,56 @@ pub struct Ran {
     pub reported: usize,
 }
 
-pub fn ran_to(
-    refusal: u8,
-    taken: usize,
-    next: usize,
-    seen: usize,
-    kept: usize,
-    reported: usize,
-) -> Ran
-    ensures { result ≡ record { refusal = refusal; taken = taken; next = next; seen = seen; kept = kept; reported = reported } }
+// A run that took no row, over a session of these counts.
+pub fn none_taken(refusal: u8, at: usize, n: usize, m: usize) -> Ran
+    ensures { result ≡ record { refusal = refusal; taken = 0; next = at; seen = n; kept = m; reported = 0 } }
 {
     Ran {
         refusal,
-        taken,
-        next,
-        seen,
-        kept,
-        reported,
+        taken: 0,
+        next: at,
+        seen: n,
+        kept: m,
+        reported: 0,
     }
 }
 
 // The row at the next offset of a run that has come so far: taken, or the refusal that stops the run before it.
-pub fn take_row<'a, 'b, 'c>(
-    declarations: &'a [u8],
-    starts: &'b Places,
-    sizes: &'b Places,
-    sets: &'b EventSets,
-    events: usize,
-    next: &'b Transitions,
-    verdicts: &'b Verdicts,
-    known: Known,
+pub fn take_row(
+    call: &Judged,
     seen: &mut [u32],
     kept: &mut [u32],
     reports: &mut [u32],
-    log: &'c [u8],
+    log: &[u8],
     r: Ran,
 ) -> Ran
-    requires { RowGoes declarations.now starts.now sizes.now events known.parameters next.now known.states r.seen r.kept seen.old kept.old × Onward r log.now reports.old }
-    ensures { RunLeaves (turn_by next.now verdicts.now known.hopeful known.asked (declared_at declarations.now starts.now sizes.now sets.now events known.parameters) log.now r.taken r.next (session_of r.seen r.kept seen.old kept.old) reports.old r.reported) result seen.new kept.new reports.new }
+    requires { RowGoes call.now r.seen r.kept seen.old kept.old × Onward r log.now reports.old }
+    ensures { RunLeaves (turn_by call.now log.now r.taken r.next (session_of r.seen r.kept seen.old kept.old) reports.old r.reported) result seen.new kept.new reports.new }
 {
-    let place = r.next;
-    let end = rows::row_end(log, place);
+    let end = rows::row_end(log, r.next);
     let a = step_row(
-        declarations,
-        starts,
-        sizes,
-        sets,
-        events,
-        next,
-        verdicts,
-        known,
+        call,
         seen,
         r.seen,
         kept,
         r.kept,
         reports,
         r.reported * KEPT_STRIDE,
-        &log[place..end],
+        &log[r.next..end],
     );
     if a.refusal != refusals::TAKEN {
-        return ran_to(a.refusal, r.taken, place, r.seen, r.kept, r.reported);
+        return Ran {
+            refusal: a.refusal,
+            ..r
+        };
     }
     let after = rows::next_row(log, end);
-    ran_to(
-        refusals::TAKEN,
-        r.taken + 1,
-        after,
-        a.seen,
-        a.kept,
-        r.reported + a.reported,
-    )
+    Ran {
+        refusal: refusals::TAKEN,
+        taken: r.taken + 1,
+        next: after,
+        seen: a.seen,
+        kept: a.kept,
+        reported: r.reported + a.reported,
+    }
 }

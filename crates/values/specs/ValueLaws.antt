@@ -100,10 +100,10 @@ pub digits-past : (f : List ℕ) (value i : ℕ) → Digits f value i → i < le
 digits-past f value i g h l = digits-other f value i g h (digit-past (get_or f i 0) l)
 
 -- a digit more, past the largest value
-pub digits_large : (f : List ℕ) (value i : ℕ) → Digits f value i → i < length f
-    → largest_value < value * 10 + (get_or f i 0 - zero_byte) → 0 ≡ value_of f
+pub digits_large : (f : List ℕ) (value i d : ℕ) → Digits f value i → i < length f → d ≡ get_or f i 0 - zero_byte
+    → largest_value < value * 10 + d → 0 ≡ value_of f
 unfolding decimal_from
-digits_large f value i g h l =
+digits_large f value i d g h q l =
     let m = value * 10 + (get_or f i 0 - zero_byte) in
     let e : decimal_from m (drop (i + 1) f) ≡ decimal_from 0 f = rw (drop_here f i h) at g.number in
     let k = decimal-grows m (drop (i + 1) f) in
@@ -116,16 +116,16 @@ digits_large f value i g h l =
     none false y = refl
 
 -- a digit more
-pub digits-turn : (f : List ℕ) (value i : ℕ) → Digits f value i → i < length f → zero_byte ≤ get_or f i 0 → get_or f i 0 ≤ 57
-    → value * 10 + (get_or f i 0 - zero_byte) ≤ largest_value → Digits f (value * 10 + (get_or f i 0 - zero_byte)) (i + 1)
+pub digits-turn : (f : List ℕ) (value i d : ℕ) → Digits f value i → i < length f → zero_byte ≤ get_or f i 0 → get_or f i 0 ≤ 57
+    → d ≡ get_or f i 0 - zero_byte → value * 10 + d ≤ largest_value → Digits f (value * 10 + d) (i + 1)
 unfolding every decimal_from
-digits-turn f value i g h a z l = record {
+digits-turn f value i d g h a z q l = rw q (record {
   filled = g.filled;
   first = g.first;
-  small = l;
+  small = rw q at l;
   digits = rw (drop_here f i h, digit_here (get_or f i 0) a z) at g.digits;
   number = rw (drop_here f i h) at g.number;
-}
+})
 
 -- all digits read
 pub digits-end : (f : List ℕ) (value i : ℕ) → Digits f value i → length f ≤ i → value ≡ value_of f

@@ -15,31 +15,23 @@ const LARGEST_VALUE: u64 = 4294967295;
 
 // The value that a field says, or 0 where it says none. The table of classes, which names and tokens are read by, is not asked
 // here: a digit is wanted for its value, and two comparisons tell it; they are proved to be its class.
+// Stays: 0 where it says none, which no value is: so document 01 has it, and `value_of` (Rows) with it.
 pub fn value_of(f: &[u8]) -> u32
     ensures { result ≡ value_of f.now }
 {
-    if f.len() == 0 {
+    if f.is_empty() || f[0] == ZERO {
         return 0;
     }
-    if f[0] == ZERO {
-        return 0;
-    }
-    let mut value: u64 = 0;
-    let mut i: usize = 0;
-    while i < f.len() {
-        let b = f[i];
-        if b < ZERO {
+    let mut value = 0;
+    for &b in f {
+        if b < ZERO || NINE < b {
             return 0;
         }
-        if NINE < b {
-            return 0;
-        }
-        let more = value * 10 + ((b - ZERO) as u64);
+        let more = value * 10 + u64::from(b - ZERO);
         if LARGEST_VALUE < more {
             return 0;
         }
         value = more;
-        i += 1;
     }
     value as u32
 }

@@ -7,7 +7,9 @@
 ghost use Rattle.std.specs.Prelude.{◌≤◌, length};
 ghost use Rattle.lineparts.specs.Lines.{most_refusal, most_heading};
 
+use printlog::Printer;
 use std::rt::Files;
+use window::Window;
 
 // A text of 4,096 bytes is taken. One byte more is enough to see that a text is longer, which the library then refuses.
 const TEXT_ROOM: usize = 4097;
@@ -42,25 +44,16 @@ fn watch(
         return;
     }
     let mut file = files::open(rt, "log.csv");
-    let first = window::first(rt, &mut file, log);
-    let refusal = window::judge_header(declarations, log, first);
+    let first = Window::first(rt, &mut file, log);
+    let refusal = window::judge_header(declarations, &log[..first.held], first.has_failed());
     if refusal != refusals::TAKEN {
         output::print_refusal(rt, text, refusal);
         return;
     }
-    let p = t.property;
-    printlog::print_all(
-        rt,
-        &mut file,
-        declarations,
-        p,
-        seen,
-        kept,
-        reports,
-        log,
-        text,
-        first,
-    );
+    if output::print_heading(rt, text, declarations).is_ok() {
+        let mut printer = Printer::new(rt, declarations, t.property, seen, kept, reports, text);
+        let _ = printer.print_log(&mut file, log, first);
+    }
 }
 
 fn main(rt: HostRuntime) {

@@ -1,13 +1,12 @@
 -- The turns of the loop that puts reports in, in the order of combinations.
 -- Assumes nothing.
-use Rattle.std.specs.Prelude.{ℕ, ◌+◌, ◌-◌, ◌*◌, ◌<◌, ◌≤◌, refl, Bool, true, false, not, ◌&&◌, List, [], ◌∷◌, ◌++◌, length}
+use Rattle.std.specs.Prelude.{ℕ, ◌+◌, ◌-◌, ◌*◌, ◌<◌, ◌≤◌, refl, Bool, true, false, ◌&&◌, List, [], ◌∷◌, ◌++◌, length}
 use Rattle.std.proofs.Math.Path.{◌≡◌, sym, ap, ap₂}
 use Rattle.std.proofs.Common.{subst, ◌∙◌, inl, inr, append_assoc, zero-add}
 use mathlib.Core.List as list
 use native.Mathlib.Omega.{arith}
 use Rattle.std.proofs.Math.ListN.{get_or}
 use Rattle.std.proofs.lemmas.List.{length-map}
-use Rattle.std.proofs.lemmas.Bool.{not-true, not-false}
 use Rattle.document.specs.Lists.{keep_if}
 use Rattle.document.specs.Limits.{width, kept_stride}
 use Rattle.document.specs.Positions.{holds}
@@ -61,29 +60,29 @@ module _ (next verdicts : List ℕ) (states asks e n i from count : ℕ) (b seen
   unfolding reported_by
   none h = record { rows = λ l q. rw h q; low = λ x y. refl; high = λ x y. refl; more = omega arith }
 
-  pub report_not : not f ≡ true → ReportedRow next verdicts asks e n i from count b seen kept t t count
-  report_not z = none (rw (made ∙ not-true f z))
+  pub report_not : f ≡ false → ReportedRow next verdicts asks e n i from count b seen kept t t count
+  report_not z = none (rw (made ∙ z))
 
-  module _ (z : not f ≡ false) (to : ℕ) (g : Bool) (qt : to ≡ step_of next (get_or kept (i * kept_stride + width) 0) e) (qg : g ≡ holds asks to) where
+  module _ (z : f ≡ true) (to : ℕ) (g : Bool) (qt : to ≡ step_of next (get_or kept (i * kept_stride + width) 0) e) (qg : g ≡ holds asks to) where
     asked : state_in asks (moved_from width (step_of next) e b S row) ≡ g
     unfolding state_in moved_from
     asked = ap (holds asks) (sym qt) ∙ sym qg
 
-    pub report_unasked : not g ≡ true → ReportedRow next verdicts asks e n i from count b seen kept t t count
-    report_unasked y = none (rw (made ∙ not-false f z, asked ∙ not-true g y))
+    pub report_unasked : g ≡ false → ReportedRow next verdicts asks e n i from count b seen kept t t count
+    report_unasked y = none (rw (made ∙ z, asked ∙ y))
 
-    will : not g ≡ false → (moves width (step_of next) e b S row && state_in asks (moved_from width (step_of next) e b S row)) ≡ true
-    will y = rw (made ∙ not-false f z, asked ∙ not-false g y)
+    will : g ≡ true → (moves width (step_of next) e b S row && state_in asks (moved_from width (step_of next) e b S row)) ≡ true
+    will y = rw (made ∙ z, asked ∙ y)
 
-    pub report_enterable : not g ≡ false → Enterable from count t
+    pub report_enterable : g ≡ true → Enterable from count t
     report_enterable y = record { inside = u.room (will y); order = u.order }
 
-    pub report_put : not g ≡ false → (c t' : List ℕ) (w v : ℕ) → c ≡ join b k → w ≡ to → v ≡ get_or verdicts w 0 → Entered from count c v t t'
+    pub report_put : g ≡ true → (c t' : List ℕ) (v : ℕ) → c ≡ join b k → v ≡ get_or verdicts to 0 → Entered from count c v t t'
         → ReportedRow next verdicts asks e n i from count b seen kept t t' (count + 1)
     unfolding reported_by report_of moved_from
-    report_put y c t' w v qc qw qv p =
+    report_put y c t' v qc qv p =
         let new : ◌≡◌ {A = Kept} (record { combination = c; state = v }) (report_of verdicts (moved_from width (step_of next) e b S row)) =
-        λ j. record { combination = (qc ∙ ap (join b) qk) j; state = (qv ∙ ap (λ (x : ℕ). get_or verdicts x 0) (qw ∙ qt)) j } in
+        λ j. record { combination = (qc ∙ ap (join b) qk) j; state = (qv ∙ ap (λ (x : ℕ). get_or verdicts x 0) qt) j } in
         record {
           rows = λ l q. p.rows ∙ ap₂ insert_kept new q ∙ sym (rw (will y) (report_insert verdicts (moved_from width (step_of next) e b S row) l));
           low = λ x h. p.low x h;

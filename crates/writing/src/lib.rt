@@ -4,108 +4,70 @@
 
 #![tactic(auto)]
 
-ghost use Rattle.writing.specs.Writing.{ReportReady, ReportedRow, Reportable, Reported, Tellable, Tells, WrittenDown};
+ghost use Rattle.writing.specs.Writing.{ReportReady, ReportedRow, Reportable, Reported, Tellable, WrittenDown};
 
 use foreseen::Foreseen;
-use limits::{Combination, KEPT_STRIDE, Transitions, Verdicts, WIDTH};
-use moves::Known;
+use limits::{Combination, KEPT_STRIDE, WIDTH};
+use moves::{Event, Known};
+use ordered::Seen;
 
 // Kept row i: its report, if it moves and its new verdict is asked for, is put in among `count` reports from a report number
 // on. Answers how many there are then.
 fn report_row(
-    next: &Transitions,
-    verdicts: &Verdicts,
-    known: Known,
-    seen: &[u32],
-    n: usize,
+    known: &Known,
+    seen: Seen,
     kept: &[u32],
     i: usize,
-    e: usize,
-    b: Combination,
-    fresh: bool,
+    event: &Event,
     reports: &mut [u32],
     from: usize,
     count: usize,
 ) -> usize
-    requires { ReportReady next.now known.states known.asked e n i from count b seen.now kept.now reports.old fresh }
-    ensures { ReportedRow next.now verdicts.now known.asked e n i from count b seen.now kept.now reports.old reports.new result }
+    requires { ReportReady known.now.next known.now.states known.now.asked event.now.number seen.count i from count event.now.binding seen.numbers.now kept.now reports.old event.now.fresh }
+    ensures { ReportedRow known.now.next known.now.verdicts known.now.asked event.now.number seen.entry.count i from count event.now.binding seen.entry.numbers.now kept.now reports.old reports.new result }
 {
-    let more = count + 1;
     let at = i * KEPT_STRIDE;
     let k = bound::row_at(kept, at);
-    if !moves::moves(fresh, b, k, seen, n) {
+    if !event.moves(k, seen) {
         return count;
     }
-    let to = moves::next_state(next, kept[at + WIDTH], e);
-    if !moves::is_among(known.asked, to) {
+    let to = known.next_state(kept[at + WIDTH], event.number);
+    if !known.is_asked(to) {
         return count;
     }
-    let c = combos::join(b, k);
-    let state = moves::wide(to);
-    tables::enter(reports, from, count, c, moves::number(verdicts[state]));
-    more
+    tables::enter(
+        reports,
+        from,
+        count,
+        combos::join(event.binding, k),
+        known.verdict(to),
+    );
+    count + 1
 }
 
 // Every kept row. Answers how many reports there are.
 fn report(
-    next: &Transitions,
-    verdicts: &Verdicts,
-    known: Known,
-    seen: &[u32],
-    n: usize,
+    known: &Known,
+    seen: Seen,
     kept: &[u32],
     m: usize,
-    e: usize,
-    b: Combination,
-    fresh: bool,
+    event: &Event,
     reports: &mut [u32],
     from: usize,
 ) -> usize
-    requires { Reportable next.now known.states known.asked e n m from b seen.now kept.now reports.old fresh }
-    ensures { Reported next.now verdicts.now known.asked e n m from b seen.now kept.now reports.old reports.new result }
+    requires { Reportable known.now.next known.now.states known.now.asked event.now.number seen.count m from event.now.binding seen.numbers.now kept.now reports.old event.now.fresh }
+    ensures { Reported known.now.next known.now.verdicts known.now.asked event.now.number seen.entry.count m from event.now.binding seen.entry.numbers.now kept.now reports.old reports.new result }
 {
-    let mut count: usize = 0;
-    let mut i: usize = 0;
-    while i < m {
-        count = report_row(
-            next, verdicts, known, seen, n, kept, i, e, b, fresh, reports, from, count,
-        );
-        i += 1;
+    let mut count = 0;
+    for i in 0..m {
+        count = report_row(known, seen, kept, i, event, reports, from, count);
     }
     count
 }
 
-// The reports, of which there are this many.
-fn tell(
-    next: &Transitions,
-    verdicts: &Verdicts,
-    known: Known,
-    seen: &[u32],
-    n: usize,
-    kept: &[u32],
-    m: usize,
-    reports: &mut [u32],
-    from: usize,
-    e: usize,
-    b: Combination,
-    o: Foreseen,
-)
-    requires { Tellable next.now known.states known.hopeful known.asked e n m from b seen.now kept.now reports.old o }
-    ensures { Tells next.now verdicts.now known.hopeful known.asked e n m from b seen.now kept.now reports.old reports.new }
-{
-    if o.reported == 0 {
-        return;
-    }
-    report(
-        next, verdicts, known, seen, n, kept, m, e, b, o.fresh, reports, from,
-    );
-}
-
 // Writes an outcome down for which there is room: the reports, the kept rows, and the binding as seen.
 pub fn write_down(
-    next: &Transitions,
-    verdicts: &Verdicts,
-    known: Known,
+    known: &Known,
     seen: &mut [u32],
     n: usize,
     kept: &mut [u32],
@@ -116,12 +78,21 @@ pub fn write_down(
     b: Combination,
     o: Foreseen,
 )
-    requires { Tellable next.now known.states known.hopeful known.asked e n m from b seen.old kept.old reports.old o }
-    ensures { WrittenDown next.now verdicts.now known.hopeful known.asked e n m from b seen.old kept.old reports.old seen.new kept.new reports.new }
+    requires { Tellable known.now.next known.now.states known.now.hopeful known.now.asked e n m from b seen.old kept.old reports.old o }
+    ensures { WrittenDown known.now.next known.now.verdicts known.now.hopeful known.now.asked e n m from b seen.old kept.old reports.old seen.new kept.new reports.new }
 {
-    tell(
-        next, verdicts, known, seen, n, kept, m, reports, from, e, b, o,
-    );
-    keeping::keep_rows(next, known, seen, n, kept, m, e, b, o.fresh);
-    keeping::see(seen, n, b, o.fresh);
+    let event = Event {
+        number: e,
+        binding: b,
+        fresh: o.fresh,
+    };
+    let before = Seen {
+        numbers: seen,
+        count: n,
+    };
+    if o.reported != 0 {
+        report(known, before, kept, m, &event, reports, from);
+    }
+    keeping::keep_rows(known, before, kept, m, &event);
+    keeping::see(seen, n, &event);
 }

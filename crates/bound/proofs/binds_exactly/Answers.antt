@@ -1,17 +1,15 @@
--- `bound::binds_exactly` meets its contract: what is left from each number on binds its part of the set if the whole does.
+-- `bound::binds_exactly` meets its contract: each number is bound exactly if the set holds its parameter.
 -- Assumes nothing.
-use Rattle.slices.specs.NumbersLaws.{bound_begins, bound_stops, bound_turn, bound_ends}
-use borrow.Author.Rules.{rules}
+use Rattle.std.proofs.Common.{rules, refl, ◌∙◌}
+use Rattle.std.proofs.lemmas.Iterator.{YieldsList-from_range}
+use Rattle.std.proofs.lemmas.Iterator.Search.{all_from_yields_List}
+use borrow.Author.Tests.{tests}
+use Rattle.document.specs.Limits.{width}
+use Rattle.bound.specs.LibraryLaws.{bound_as, all_binds_exactly}
 use Rattle.bound.proofs.binds_exactly.Goals as goal
 
-pub loop-j-init : goal.loop-j-init
-loop-j-init c = search (rules, bound_begins)
-
-pub returns-then-not-bound_as : goal.returns-then-not-bound_as
-returns-then-not-bound_as c = search (rules, bound_stops)
-
-pub loop-j-preserved : goal.loop-j-preserved
-loop-j-preserved c = search (rules, bound_turn)
-
 pub returns : goal.returns
-returns c = search (rules, bound_ends)
+returns c =
+    all_from_yields_List (bound_as c.args.set c.args.c) c.all.new.self _ _ c.all.ensures.ran
+    (YieldsList-from_range 0 width width (cc) refl) (λ x b q k. search (rules, tests))
+    ∙ all_binds_exactly c.args.set c.args.c (search rules)

@@ -1,14 +1,9 @@
--- `bound::restricted` meets its contract: the numbers written so far are those of the restriction.
+-- `bound::restricted` meets its contract: each number is the combination's where the set holds its parameter, else 0.
 -- Assumes nothing.
-use Rattle.bound.specs.RestrictionsLaws.{restricts_begins, restricts_turn, restricts_ends}
-use borrow.Author.Rules.{rules}
+use Rattle.std.proofs.Common.{rules}
+use borrow.Author.Tests.{tests}
+use Rattle.bound.specs.LibraryLaws.{made_restricted}
 use Rattle.bound.proofs.restricted.Goals as goal
 
-pub loop-j-init : goal.loop-j-init
-loop-j-init c = search (rules, restricts_begins)
-
-pub loop-j-preserved : goal.loop-j-preserved
-loop-j-preserved c = search (rules, restricts_turn)
-
 pub returns : goal.returns
-returns c = search (rules, restricts_ends)
+returns c = made_restricted c.args.set c.args.c c.from_fn.result (search rules) c.from_fn.ensures.items (λ k r q l u. search (rules, tests))

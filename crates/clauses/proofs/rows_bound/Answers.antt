@@ -1,17 +1,16 @@
--- `clauses::rows_bound` meets its contract: the rows passed are not empty.
+-- `clauses::rows_bound` meets its contract: the rows are tested one after another.
 -- Assumes nothing.
-use Rattle.clauses.specs.RowsLaws.{passed_begins, bound_stops, bound_turn, bound_ends}
-use borrow.Author.Rules.{rules}
+use Rattle.std.proofs.Common.{rules, arith, ◌∙◌}
+use Rattle.std.proofs.lemmas.Iterator.{YieldsList-from_range}
+use Rattle.std.proofs.lemmas.Iterator.Search.{all_from_yields_List}
+use borrow.Author.Tests.{tests}
+use Rattle.document.specs.Limits.{seen_stride}
+use Rattle.clauses.specs.LibraryLaws.{all_rows}
+use Rattle.clauses.specs.RowsLaws.{not_empty, row_of}
 use Rattle.clauses.proofs.rows_bound.Goals as goal
 
-pub loop-i-init : goal.loop-i-init
-loop-i-init c = (search rules, passed_begins _ _ _)
-
-pub returns-then-is_empty : goal.returns-then-is_empty
-returns-then-is_empty c = search (rules, bound_stops)
-
-pub loop-i-preserved : goal.loop-i-preserved
-loop-i-preserved c = (search rules, search (rules, bound_turn))
-
 pub returns : goal.returns
-returns c = search (rules, bound_ends)
+returns c =
+    all_from_yields_List (λ i. not_empty (row_of seen_stride c.args.t.now i)) c.all.new.self _ _ c.all.ensures.ran
+    (YieldsList-from_range 0 c.args.n c.args.n (cc) (omega arith)) (λ x b q k. search (rules, tests))
+    ∙ all_rows not_empty seen_stride c.args.n c.args.t.now

@@ -1,17 +1,14 @@
--- `combos::compatible` meets its contract: what is left from each number on is compatible if the whole is.
+-- `combos::compatible` meets its contract: each pair of numbers suits.
 -- Assumes nothing.
-use Rattle.slices.specs.NumbersLaws.{suited_begins, suited_stops, suited_turn, suited_ends}
-use borrow.Author.Rules.{rules}
+use Rattle.std.proofs.Common.{rules, ◌∙◌}
+use Rattle.std.proofs.lemmas.Iterator.{YieldsList-from_slice, YieldsList-from_zip}
+use Rattle.std.proofs.lemmas.Iterator.Search.{all_from_yields_List}
+use borrow.Author.Tests.{tests}
+use Rattle.combos.specs.LibraryLaws.{suits, all_compatible}
 use Rattle.combos.proofs.compatible.Goals as goal
 
-pub loop-j-init : goal.loop-j-init
-loop-j-init c = search (rules, suited_begins)
-
-pub returns-then-not-suits : goal.returns-then-not-suits
-returns-then-not-suits c = search (rules, suited_stops)
-
-pub loop-j-preserved : goal.loop-j-preserved
-loop-j-preserved c = search (rules, suited_turn)
-
 pub returns : goal.returns
-returns c = search (rules, suited_ends)
+returns c =
+    all_from_yields_List suits c.all.new.self _ _ c.all.ensures.ran
+    (YieldsList-from_zip (YieldsList-from_slice c.args.c cc) (YieldsList-from_slice c.args.b cc)) (λ x b q k. search (rules, tests))
+    ∙ all_compatible c.args.c c.args.b (search rules)

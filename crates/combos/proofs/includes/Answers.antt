@@ -1,17 +1,14 @@
--- `combos::includes` meets its contract: what is left from each number on is included if the whole is.
+-- `combos::includes` meets its contract: each pair of numbers agrees.
 -- Assumes nothing.
-use Rattle.slices.specs.NumbersLaws.{included_begins, included_stops, included_turn, included_ends}
-use borrow.Author.Rules.{rules}
+use Rattle.std.proofs.Common.{rules, ◌∙◌}
+use Rattle.std.proofs.lemmas.Iterator.{YieldsList-from_slice, YieldsList-from_zip}
+use Rattle.std.proofs.lemmas.Iterator.Search.{all_from_yields_List}
+use borrow.Author.Tests.{tests}
+use Rattle.combos.specs.LibraryLaws.{agrees, all_includes}
 use Rattle.combos.proofs.includes.Goals as goal
 
-pub loop-j-init : goal.loop-j-init
-loop-j-init c = search (rules, included_begins)
-
-pub returns-then-not-agrees : goal.returns-then-not-agrees
-returns-then-not-agrees c = search (rules, included_stops)
-
-pub loop-j-preserved : goal.loop-j-preserved
-loop-j-preserved c = search (rules, included_turn)
-
 pub returns : goal.returns
-returns c = search (rules, included_ends)
+returns c =
+    all_from_yields_List agrees c.all.new.self _ _ c.all.ensures.ran
+    (YieldsList-from_zip (YieldsList-from_slice c.args.c cc) (YieldsList-from_slice c.args.b cc)) (λ x b q k. search (rules, tests))
+    ∙ all_includes c.args.c c.args.b (search rules)

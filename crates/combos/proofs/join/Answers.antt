@@ -1,14 +1,9 @@
--- `combos::join` meets its contract: the numbers written so far are those of the join.
+-- `combos::join` meets its contract: each number is the first's where it is bound, else the second's.
 -- Assumes nothing.
-use Rattle.slices.specs.NumbersLaws.{joined_begins, joined-turn, joined_ends}
-use borrow.Author.Rules.{rules}
+use Rattle.std.proofs.Common.{rules}
+use borrow.Author.Tests.{tests}
+use Rattle.combos.specs.LibraryLaws.{made_join}
 use Rattle.combos.proofs.join.Goals as goal
 
-pub loop-j-init : goal.loop-j-init
-loop-j-init c = search (rules, joined_begins)
-
-pub loop-j-preserved : goal.loop-j-preserved
-loop-j-preserved c = search (rules, joined-turn)
-
 pub returns : goal.returns
-returns c = search (rules, joined_ends)
+returns c = made_join c.args.c c.args.b c.from_fn.result (search rules) (search rules) c.from_fn.ensures.items (λ k r q l u. search (rules, tests))

@@ -1,11 +1,6 @@
--- What the loops of `combos::precedes` keep, and why they end.
+-- What the loop of `combos::precedes` keeps.
 use Rattle.slices.specs.NumbersLaws.{Ordered}
-use Rattle.document.specs.Limits.{width}
-use Prim.Native.Nat.{◌-◌}
 use Rattle.combos.proofs.precedes.Given as goal
 
 abbrev pub invariant-loop-j : goal.invariant-loop-j
 invariant-loop-j l = Ordered l.c l.b l.j
-
-abbrev pub decreases-loop-j : goal.decreases-loop-j
-decreases-loop-j l = width - l.j

@@ -1,4 +1,4 @@
--- What the loops of `decimals::put_digits` keep, and why they end.
+-- What the loop of `decimals::put_digits` keeps.
 use Prim.Native.Nat.{◌≤◌, ◌+◌}
 use mathlib.Core.Path.{◌≡◌}
 use lib.ListN.{length}
@@ -7,6 +7,3 @@ use Rattle.decimals.proofs.put_digits.Given as goal
 
 abbrev pub invariant-loop-p : goal.invariant-loop-p
 invariant-loop-p l = (l.at + l.count ≤ length l.text) × (length l.text ≡ length l.initial.text) × (l.end ≡ l.at + l.count) × Writing l.at l.count l.x l.initial.text l.text l.left l.p
-
-abbrev pub decreases-loop-p : goal.decreases-loop-p
-decreases-loop-p l = l.p

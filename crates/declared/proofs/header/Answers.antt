@@ -1,19 +1,18 @@
 -- `declared::header` meets its contract: the declarations' refusal, or whether the row is their first.
 -- Assumes nothing.
-use native.Mathlib.Omega.{arith}
-use Rattle.rows.specs.TextLaws.{row_within}
+use Rattle.std.proofs.Common.{rules}
+use Rattle.declaring.specs.TextReadsLaws.{first_inside}
 use Rattle.declared.specs.AnswersLaws.{header_refused, header_differs, header_same}
-use borrow.Author.Rules.{rules}
 use Rattle.declared.proofs.header.Goals as goal
 
-pub returns-then-t-ne-TAKEN : goal.returns-then-t-ne-TAKEN
-returns-then-t-ne-TAKEN c = search (rules, header_refused)
+pub slice_bounds-eq-end : goal.slice_bounds-eq-end
+slice_bounds-eq-end c = first_inside _ _ c.row_end.ensures
 
-pub slice_bounds-same-end : goal.slice_bounds-same-end
-slice_bounds-same-end c = omega (arith, row_within _ _ _ c.row_end-end.ensures (search rules))
+pub returns-in-Ok : goal.returns-in-Ok
+returns-in-Ok c = search (rules, header_same, c.in-Ok.ensures)
 
-pub returns-then-not-same : goal.returns-then-not-same
-returns-then-not-same c = search (rules, header_differs)
+pub returns-in-Ok-2 : goal.returns-in-Ok-2
+returns-in-Ok-2 c = search (rules, header_differs, c.in-Ok.ensures)
 
-pub returns : goal.returns
-returns c = search (rules, header_same)
+pub returns-in-Err : goal.returns-in-Err
+returns-in-Err c = search (rules, header_refused, c.in-Err.ensures)

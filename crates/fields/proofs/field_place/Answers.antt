@@ -1,21 +1,20 @@
 -- `fields::field_place` meets its contract: the fields that are left to be passed lead to the one that is asked for.
 -- Assumes nothing.
-use native.Mathlib.Omega.{arith}
+use Rattle.std.proofs.Common.{rules, arith}
 use Rattle.fields.specs.SplitLaws.{walk_begins, walk_on, walk_none, walk_ends, walk_inside}
-use borrow.Author.Rules.{rules}
 use Rattle.fields.proofs.field_place.Goals as goal
 
-pub loop-left-init : goal.loop-left-init
-loop-left-init c = search (rules, walk_begins)
+pub loop-passed-init : goal.loop-passed-init
+loop-passed-init c = search (rules, walk_begins)
 
 pub returns-then-row-end : goal.returns-then-row-end
-returns-then-row-end c = search (rules, walk_none)
+returns-then-row-end c = walk_none _ _ _ _ _ c.loop-passed.invariant (omega arith) c.if-row-end.true
 
-pub loop-left-preserved : goal.loop-left-preserved
-loop-left-preserved c = search (rules, walk_on)
+pub loop-passed-preserved : goal.loop-passed-preserved
+loop-passed-preserved c = search (rules, walk_on)
 
-pub overflow_sub-size : goal.overflow_sub-size
-overflow_sub-size c = omega (arith, walk_inside _ _ _ _ _ c.loop-left.invariant)
+pub overflow_sub-result : goal.overflow_sub-result
+overflow_sub-result c = omega (arith, walk_inside _ _ _ _ _ c.loop-passed.invariant)
 
 pub returns : goal.returns
-returns c = search (rules, walk_ends)
+returns c = walk_ends _ _ _ _ _ c.loop-passed.invariant (omega arith)

@@ -5,7 +5,7 @@ use Prim.Native.Nat.{◌-◌}
 use Rattle.fields.proofs.split.Given as goal
 
 abbrev pub invariant-loop-end : goal.invariant-loop-end
-invariant-loop-end l = Collects l.row l.start l.end l.f
+invariant-loop-end l = Collects l.bytes l.start l.end l.fields
 
 abbrev pub decreases-loop-end : goal.decreases-loop-end
-decreases-loop-end l = length l.row - l.end
+decreases-loop-end l = length l.bytes - l.end

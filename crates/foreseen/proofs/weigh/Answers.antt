@@ -1,29 +1,20 @@
--- `foreseen::weigh` meets its contract: by whether the row moves in place, moves to a new combination, or stays.
+-- `foreseen::weigh` meets its contract: by whether the row stays, and whether it moves.
 -- Assumes nothing.
-use native.Mathlib.Omega.{arith}
-use Rattle.moves.specs.ReadyLaws.{row_joint, row_onward}
-use Rattle.foreseen.specs.WeighLaws.{weight_in_place, weight_stays, weight_creates, moved_weight_small}
-use mathlib.Core.Path.{sym, ◌∙◌}
+use Rattle.std.proofs.Math.Logic.{inl, inr}
+use Rattle.std.proofs.Common.{sym, ◌∙◌}
+use Rattle.foreseen.specs.WeighLaws.{weight_stays, weight_moves}
 use borrow.Author.Rules.{rules}
 use Rattle.foreseen.proofs.weigh.Goals as goal
-
-pub moved_weight-requires : goal.moved_weight-requires
-moved_weight-requires c = search (rules, row_onward)
-
-pub returns-then-includes : goal.returns-then-includes
-returns-then-includes c = search (rules, weight_in_place)
-
-pub creates-requires : goal.creates-requires
-creates-requires c = (search rules, search (rules, row_joint), sym c.includes.ensures ∙ c.if-includes.false)
+use Rattle.foreseen.proofs.weigh.Goals.{else-stays-via-then-stays+else-not-creates, else-stays-via-else-stays}
 
 pub returns-then-not-creates : goal.returns-then-not-creates
 returns-then-not-creates c = search (rules, weight_stays)
 
-pub moved_weight-w-requires : goal.moved_weight-w-requires
-moved_weight-w-requires c = search (rules, row_onward)
-
-pub overflow_add-result : goal.overflow_add-result
-overflow_add-result c = omega (arith, moved_weight_small _ _ _ _ c.moved_weight-w.ensures)
-
 pub returns : goal.returns
-returns c = search (rules, weight_creates)
+returns c =
+    weight_moves _ _ _ _ _ _ _ _ _ c.requires _ _ _ _ c.row_at-k.ensures c.includes-stays.ensures
+    (elim c.else-stays.branch [
+      | else-stays-via-then-stays+else-not-creates w ↦ inr (sym w.creates.ensures ∙ w.if-not-creates.false)
+      | else-stays-via-else-stays w ↦ inl w.if-stays.false
+    ])
+    _ c.next_state-to.ensures _ _ c.is_hopeful.ensures c.is_asked.ensures _ _ _ c.from.ensures c.from-2.ensures c.from-3.ensures

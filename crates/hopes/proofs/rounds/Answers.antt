@@ -4,14 +4,14 @@ use Rattle.hopes.specs.LeadsLaws.{rounds_begin, rounds_turn, rounds_end, rounds_
 use borrow.Author.Rules.{rules}
 use Rattle.hopes.proofs.rounds.Goals as goal
 
-pub loop-left-init : goal.loop-left-init
-loop-left-init c = (search rules, rounds_begin _ _ _)
+pub loop-done-init : goal.loop-done-init
+loop-done-init c = rounds_begin _ _ _
 
 pub returns-then-more-found : goal.returns-then-more-found
 returns-then-more-found c = search (rules, rounds_same)
 
-pub loop-left-preserved : goal.loop-left-preserved
-loop-left-preserved c = (search rules, search (rules, rounds_turn))
+pub loop-done-preserved : goal.loop-done-preserved
+loop-done-preserved c = search (rules, rounds_turn)
 
 pub returns : goal.returns
 returns c = search (rules, rounds_end)

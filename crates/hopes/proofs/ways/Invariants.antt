@@ -1,11 +1,6 @@
--- What the loops of `hopes::ways` keep, and why they end.
-use Rattle.property.specs.Meaning.{Within}
+-- What the loops of `hopes::ways` keep.
 use Rattle.hopes.specs.Steps.{Ways}
-use Prim.Native.Nat.{◌≤◌, ◌-◌, ◌<◌}
 use Rattle.hopes.proofs.ways.Given as goal
 
 abbrev pub invariant-loop-e : goal.invariant-loop-e
-invariant-loop-e l = (l.e ≤ l.events) × (l.s < l.states) × Within l.next l.events l.states × Ways l.next l.allowed l.e l.s l.found
-
-abbrev pub decreases-loop-e : goal.decreases-loop-e
-decreases-loop-e l = l.events - l.e
+invariant-loop-e l = Ways l.taken.property.next l.allowed l.e l.s l.found

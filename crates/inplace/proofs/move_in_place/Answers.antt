@@ -1,5 +1,6 @@
 -- `inplace::move_in_place` meets its contract: where the rows stand that may include the binding, then the walk over them.
 -- Assumes nothing.
+use Rattle.std.proofs.Common.{refl}
 use Rattle.spans.specs.SpanLaws.{rising_of, spans_of}
 use Rattle.inplace.specs.WalkLaws.{moved_in_place}
 use borrow.Author.Rules.{rules}
@@ -12,7 +13,7 @@ pub end_place-end-requires : goal.end_place-end-requires
 end_place-end-requires c = search (rules, rising_of)
 
 pub walk-row-requires : goal.walk-row-requires
-walk-row-requires c = (search rules, spans_of _ _ _ _ _ _ _ c.requires.wide (search rules) c.wide.ensures c.first_place-low.ensures c.end_place-end.ensures)
+walk-row-requires c = (search rules, spans_of _ _ _ _ _ _ _ c.requires.wide (search rules) refl c.first_place-low.ensures c.end_place-end.ensures)
 
 pub returns : goal.returns
-returns c = moved_in_place _ _ _ _ _ _ _ _ _ _ _ _ (spans_of _ _ _ _ _ _ _ c.requires.wide (search rules) c.wide.ensures c.first_place-low.ensures c.end_place-end.ensures) c.walk-row.ensures
+returns c = moved_in_place _ _ _ _ _ _ _ _ _ _ _ _ (spans_of _ _ _ _ _ _ _ c.requires.wide (search rules) refl c.first_place-low.ensures c.end_place-end.ensures) c.walk-row.ensures

@@ -1,7 +1,8 @@
 -- `inplace::walk` meets its contract: the rows below the one that comes next are moved or stay.
 -- Assumes nothing.
-use Rattle.inplace.specs.WalkLaws.{going_begins, going_ends, going_state, going_onward, going_in, going_out, walks_none, rows_inside}
+use Rattle.inplace.specs.WalkLaws.{going_begins, going_ends, going_state, going_onward, going_in, going_out, walks_none}
 use borrow.Author.Rules.{rules}
+use Rattle.inplace.proofs.walk.Goals.{then-agrees+else-not-is_hopeful+else-is_asked, else-agrees}
 use Rattle.inplace.proofs.walk.Goals as goal
 
 pub returns-then-number-eq0 : goal.returns-then-number-eq0
@@ -13,26 +14,17 @@ loop-i-init c = (search rules, search rules, search rules, search rules, search 
 pub next_state-to-requires : goal.next_state-to-requires
 next_state-to-requires c = (search (rules, going_state), search rules)
 
-pub is_among-requires : goal.is_among-requires
-is_among-requires c = search (rules, going_onward)
+pub is_hopeful-requires : goal.is_hopeful-requires
+is_hopeful-requires c = search (rules, going_onward)
 
-pub returns-then-not-is_among : goal.returns-then-not-is_among
-returns-then-not-is_among c = search (rules, going_ends)
-
-pub is_among-requires-then-agrees : goal.is_among-requires-then-agrees
-is_among-requires-then-agrees c = search (rules, going_onward)
-
-pub returns-then-is_among : goal.returns-then-is_among
-returns-then-is_among c = search (rules, going_ends)
-
-pub next_with-i-requires-then-agrees : goal.next_with-i-requires-then-agrees
-next_with-i-requires-then-agrees c = (search rules, rows_inside _ _ _ c.loop-i.invariant.1 (search rules), search rules)
-
-pub loop-i-preserved-then-agrees : goal.loop-i-preserved-then-agrees
-loop-i-preserved-then-agrees c = (search rules, search rules, search rules, search rules, going_in _ _ _ _ _ _ _ _ _ _ _ _ _ _ c.loop-i.invariant.4 c.loop-i-test.true _ c.agrees.ensures c.if-agrees.true _ _ _ _ c.next_state-to.ensures c.is_among.ensures c.if-not-is_among.false-raw c.is_among-then-agrees.ensures c.if-is_among.false c.next_with-i-then-agrees.ensures)
+pub is_asked-requires : goal.is_asked-requires
+is_asked-requires c = search (rules, going_onward)
 
 pub loop-i-preserved : goal.loop-i-preserved
-loop-i-preserved c = (search rules, search rules, search rules, search rules, going_out _ _ _ _ _ _ _ _ _ _ _ _ _ _ c.loop-i.invariant.4 c.loop-i-test.true _ c.agrees.ensures c.if-agrees.false _ c.next_with-i-else-agrees.ensures)
+loop-i-preserved c = elim c.if-agrees.branch [
+  | then-agrees+else-not-is_hopeful+else-is_asked w ↦ (search rules, search rules, search rules, search rules, search (rules, going_in))
+  | else-agrees w ↦ (search rules, search rules, search rules, search rules, search (rules, going_out))
+]
 
 pub returns : goal.returns
 returns c = search (rules, going_ends)

@@ -7,11 +7,14 @@ use Rattle.judge.proofs.sound.Goals as goal
 pub returns-then-not-seen_stands : goal.returns-then-not-seen_stands
 returns-then-not-seen_stands c = search (rules, sound_seen)
 
-pub returns-then-not-kept_stands : goal.returns-then-not-kept_stands
-returns-then-not-kept_stands c = search (rules, sound_kept)
+pub invariant_of-seen : goal.invariant_of-seen
+invariant_of-seen c = search (rules, seen_in_order)
 
 pub rows_rightly_kept-requires : goal.rows_rightly_kept-requires
-rows_rightly_kept-requires c = (kept_inside _ _ _ _ c.kept_stands.ensures c.if-not-kept_stands.false-raw, search rules, seen_in_order _ _ _ _ c.seen_stands.ensures c.if-not-seen_stands.false-raw)
+rows_rightly_kept-requires c = search (rules, kept_inside)
 
-pub returns : goal.returns
-returns c = search (rules, sound-rows)
+pub returns-then-kept_stands : goal.returns-then-kept_stands
+returns-then-kept_stands c = search (rules, sound-rows)
+
+pub returns-else-kept_stands : goal.returns-else-kept_stands
+returns-else-kept_stands c = search (rules, sound_kept)

@@ -4,24 +4,25 @@ use Rattle.keeping.specs.GrowRowLaws.{grow_joint, grow_onward, grow_in_place, gr
 use mathlib.Core.Path.{sym, ◌∙◌}
 use borrow.Author.Rules.{rules}
 use Rattle.keeping.proofs.grow_row.Goals as goal
+use Rattle.keeping.proofs.grow_row.Goals.{then-includes-via-then-includes, then-includes-via-else-includes+then-not-creates}
 
 pub returns-then-includes : goal.returns-then-includes
-returns-then-includes c = search (rules, grow_in_place)
+returns-then-includes c = elim c.then-includes.branch [
+  | then-includes-via-then-includes w ↦ search (rules, grow_in_place)
+  | then-includes-via-else-includes+then-not-creates w ↦ search (rules, grow_not)
+]
 
 pub creates-requires : goal.creates-requires
 creates-requires c = (search rules, search (rules, grow_joint), sym c.includes.ensures ∙ c.if-includes.false)
 
-pub returns-then-not-creates : goal.returns-then-not-creates
-returns-then-not-creates c = search (rules, grow_not)
+pub is_hopeful-requires : goal.is_hopeful-requires
+is_hopeful-requires c = search (rules, grow_onward)
 
-pub is_among-requires : goal.is_among-requires
-is_among-requires c = search (rules, grow_onward)
-
-pub returns-then-not-is_among : goal.returns-then-not-is_among
-returns-then-not-is_among c = search (rules, grow_hopeless)
+pub returns-then-not-is_hopeful : goal.returns-then-not-is_hopeful
+returns-then-not-is_hopeful c = search (rules, grow_hopeless)
 
 pub enter-requires : goal.enter-requires
-enter-requires c = grow_enterable _ _ _ _ _ _ _ _ _ _ _ c.requires _ _ c.row_at-k.ensures c.includes.ensures c.if-includes.false _ c.creates.ensures c.if-not-creates.false-raw _ _ c.next_state-to.ensures c.is_among.ensures c.if-not-is_among.false-raw
+enter-requires c = search (rules, grow_enterable)
 
 pub returns : goal.returns
 returns c = search (rules, grow_created)

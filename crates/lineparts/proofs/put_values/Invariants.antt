@@ -1,14 +1,11 @@
--- What the loops of `lineparts::put_values` keep, and why they end.
-use Prim.Native.Nat.{◌≤◌, ◌+◌, ◌-◌, ◌*◌}
-use mathlib.Core.Path.{◌≡◌}
-use lib.ListN.{length, take, drop}
-use Rattle.document.specs.Limits.{width}
+-- What the loop of `lineparts::put_values` keeps: the values before the one reached stand.
+use Rattle.std.proofs.Common.{◌*◌, ◌≡◌, length, take}
 use Rattle.decimals.specs.Written.{Written}
-use Rattle.lineparts.specs.Lines.{values_text, most_value, most_values}
+use Rattle.lineparts.specs.Lines.{values_text, most_value}
 use Rattle.lineparts.proofs.put_values.Given as goal
 
-abbrev pub invariant-loop-j : goal.invariant-loop-j
-invariant-loop-j l = (l.j ≤ l.parameters) × (l.parameters ≤ width) × (l.at + most_values ≤ length l.text) × (length l.text ≡ length l.initial.text) × (l.from + width ≤ length l.reports) × Written l.at (l.j * most_value) (values_text (take l.j (drop l.from l.reports))) l.initial.text l.text l.next
-
-abbrev pub decreases-loop-j : goal.decreases-loop-j
-decreases-loop-j l = l.parameters - l.j
+abbrev pub invariant-loop-x : goal.invariant-loop-x
+invariant-loop-x l = record {
+  length_kept : length l.text ≡ length l.initial.text;
+  written : Written l.at (l.x-index * most_value) (values_text (take l.x-index l.values)) l.initial.text l.text l.next;
+}

@@ -2,14 +2,13 @@
 -- Assumes nothing.
 use mathlib.Core.List.{[]}
 use Rattle.logs.specs.CallsLaws.{row_call_refused, row_call_goes, row_call_steps}
-use borrow.Author.Rules.{rules}
 use Rattle.logs.proofs.row.Goals as goal
 
-pub returns-then-judged-ne-TAKEN : goal.returns-then-judged-ne-TAKEN
-returns-then-judged-ne-TAKEN c = search (rules, row_call_refused)
-
 pub step_row-requires : goal.step_row-requires
-step_row-requires c = row_call_goes _ _ _ _ _ _ [] [] _ c.judge_call-judged.ensures c.if-judged-ne-TAKEN.false
+step_row-requires c = row_call_goes _ _ _ _ _ _ [] [] _ c.in-Ok.ensures
 
-pub returns : goal.returns
-returns c = search (rules, row_call_steps)
+pub returns-in-Ok : goal.returns-in-Ok
+returns-in-Ok c = row_call_steps _ _ _ _ _ _ _ _ _ c.in-Ok.ensures _ _ _ _ c.step_row.ensures
+
+pub returns-in-Err : goal.returns-in-Err
+returns-in-Err c = row_call_refused _ _ _ _ _ _ _ _ _ c.in-Err.ensures _ c.number.ensures _ c.counts_alone.ensures

@@ -1,18 +1,14 @@
--- `names::all_names` meets its contract: the fields from each place on pass if all do.
+-- `names::all_names` meets its contract: the test at the numbers of the fields is the test of the fields.
 -- Assumes nothing.
-use Rattle.names.specs.MarksLaws.{all_fails, all_turn, all_over}
-use mathlib.Core.Path.{refl}
-use borrow.Author.Rules.{rules}
+use Rattle.std.proofs.Common.{refl, rules, tests, ◌∙◌}
+use Rattle.std.proofs.lemmas.Iterator.{YieldsList-from_range}
+use Rattle.std.proofs.lemmas.Iterator.Search.{all_from_yields_List}
+use Rattle.document.specs.Rows.{field}
+use Rattle.document.specs.Declarations.{is_name}
+use Rattle.names.specs.MarksLaws.{all_pass}
 use Rattle.names.proofs.all_names.Goals as goal
 
-pub loop-k-init : goal.loop-k-init
-loop-k-init c = refl
-
-pub returns-then-not-is_name : goal.returns-then-not-is_name
-returns-then-not-is_name c = search (rules, all_fails)
-
-pub loop-k-preserved : goal.loop-k-preserved
-loop-k-preserved c = search (rules, all_turn)
-
 pub returns : goal.returns
-returns c = search (rules, all_over)
+returns c =
+    let passes = all_from_yields_List (λ k. is_name (field c.args.row.now.bytes.now k)) _ _ _ c.all.ensures.ran (YieldsList-from_range 1 c.args.row.now.fields.count _ refl refl) (λ x b q k. search (rules, tests)) in
+    passes ∙ all_pass c.args.row.now.bytes.now c.args.row.now.fields c.args.row.now.split c.requires is_name 1 _ refl

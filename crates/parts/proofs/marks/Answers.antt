@@ -1,23 +1,14 @@
 -- `parts::marks` meets its contract: the marks that are left make of the part so far what all of them make of the atom.
 -- Assumes nothing.
-use Rattle.parts.specs.ReadersLaws.{marks_first, star_less, plus_less, marks_star, marks_plus, marks_over}
-use borrow.Author.Rules.{rules}
+use Rattle.std.proofs.Common.{inl, inr, rules}
+use Rattle.parts.specs.ReadersLaws.{marks_turn, marks_over}
 use Rattle.parts.proofs.marks.Goals as goal
 
-pub loop-more-init : goal.loop-more-init
-loop-more-init c = search (rules, marks_first)
+pub returns-in_default : goal.returns-in_default
+returns-in_default c = marks_over _ _ _ c.loop-r.invariant _ c.look-t.ensures c.in_default.not-Star c.in_default.not-Plus
 
-pub loop-more-smaller-then-t-eq-STAR : goal.loop-more-smaller-then-t-eq-STAR
-loop-more-smaller-then-t-eq-STAR c = search (rules, star_less)
+pub loop-r-preserved-in-Star : goal.loop-r-preserved-in-Star
+loop-r-preserved-in-Star c = marks_turn _ _ _ c.loop-r.invariant _ c.look-t.ensures _ (inl (c.in-Star.is, search rules))
 
-pub loop-more-preserved-then-t-eq-STAR : goal.loop-more-preserved-then-t-eq-STAR
-loop-more-preserved-then-t-eq-STAR c = search (rules, marks_star)
-
-pub loop-more-smaller : goal.loop-more-smaller
-loop-more-smaller c = search (rules, plus_less)
-
-pub loop-more-preserved : goal.loop-more-preserved
-loop-more-preserved c = search (rules, marks_plus)
-
-pub returns-else-t-eq-PLUS : goal.returns-else-t-eq-PLUS
-returns-else-t-eq-PLUS c = search (rules, marks_over)
+pub loop-r-preserved : goal.loop-r-preserved
+loop-r-preserved c = marks_turn _ _ _ c.loop-r.invariant _ c.look-t.ensures _ (inr (c.in-Plus.is, search rules))

@@ -1,11 +1,11 @@
--- What the loops of `parts::marks` keep, and why they end.
+-- What the loop of `parts::marks` keeps, and why it ends.
 use lib.ListN.{length}
 use Rattle.parts.specs.ReadersLaws.{Marking}
 use Prim.Native.Nat.{◌-◌}
 use Rattle.parts.proofs.marks.Given as goal
 
-abbrev pub invariant-loop-more : goal.invariant-loop-more
-invariant-loop-more l = Marking l.text l.initial.r l.r
+abbrev pub invariant-loop-r : goal.invariant-loop-r
+invariant-loop-r l = Marking l.text l.initial.r l.r
 
-abbrev pub decreases-loop-more : goal.decreases-loop-more
-decreases-loop-more l = length l.text - l.r.at
+abbrev pub decreases-loop-r : goal.decreases-loop-r
+decreases-loop-r l = length l.text - l.r.at

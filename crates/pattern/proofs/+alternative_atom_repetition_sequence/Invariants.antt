@@ -4,13 +4,13 @@ use Rattle.std.proofs.Common.{◌+◌, ◌-◌, ◌*◌, length}
 use Rattle.pattern.proofs.+alternative_atom_repetition_sequence.Given as goal
 
 abbrev pub decreases-alternative : goal.decreases-alternative
-decreases-alternative l = (length l.text.now - l.at) * 4 + 3
+decreases-alternative l = (length l.source.now.text.now - l.at) * 4 + 3
 
 abbrev pub decreases-atom : goal.decreases-atom
-decreases-atom l = (length l.text.now - l.at) * 4
+decreases-atom l = (length l.source.now.text.now - l.at) * 4
 
 abbrev pub decreases-repetition : goal.decreases-repetition
-decreases-repetition l = (length l.text.now - l.at) * 4 + 1
+decreases-repetition l = (length l.source.now.text.now - l.at) * 4 + 1
 
 abbrev pub decreases-sequence : goal.decreases-sequence
-decreases-sequence l = (length l.text.now - l.at) * 4 + 2
+decreases-sequence l = (length l.source.now.text.now - l.at) * 4 + 2

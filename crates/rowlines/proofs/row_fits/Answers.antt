@@ -1,11 +1,11 @@
 -- `rowlines::row_fits` meets its contract.
 -- Assumes nothing.
-use Rattle.rowlines.specs.RowLinesLaws.{fits_last, fits_room}
-use borrow.Author.Rules.{rules}
+use Rattle.std.proofs.Common.{rules}
+use Rattle.rowlines.specs.RowLinesLaws.{most_max, fits_last, fits_room}
 use Rattle.rowlines.proofs.row_fits.Goals as goal
 
-pub returns-then-number-eq-LAST_NUMBER : goal.returns-then-number-eq-LAST_NUMBER
-returns-then-number-eq-LAST_NUMBER c = search (rules, fits_last)
+pub returns-then-number-lt18446744073709551615 : goal.returns-then-number-lt18446744073709551615
+returns-then-number-lt18446744073709551615 c = search (rules, most_max, fits_room)
 
-pub returns : goal.returns
-returns c = search (rules, fits_room)
+pub returns-else-number-lt18446744073709551615 : goal.returns-else-number-lt18446744073709551615
+returns-else-number-lt18446744073709551615 c = search (rules, fits_last)

@@ -1,21 +1,14 @@
--- `rows::has_stray` meets its contract: what is left from each place on holds a stray byte if the row does.
+-- `rows::has_stray` meets its contract: some byte is a CR or an LF.
 -- Assumes nothing.
-use Rattle.rows.specs.RowsLaws.{stray-cr, stray-lf, stray-turn, stray_over}
-use mathlib.Core.Path.{refl}
-use borrow.Author.Rules.{rules}
+use Rattle.std.specs.Prelude.{eqb, ◌||◌}
+use Rattle.std.proofs.Common.{rules, tests, ◌∙◌}
+use Rattle.std.proofs.lemmas.Iterator.{YieldsList-from_slice}
+use Rattle.std.proofs.lemmas.Iterator.Search.{any_from_yields_List}
+use Rattle.document.specs.Classes.{cr, lf}
+use Rattle.rows.specs.RowsLaws.{stray_some}
 use Rattle.rows.proofs.has_stray.Goals as goal
 
-pub loop-i-init : goal.loop-i-init
-loop-i-init c = refl
-
-pub returns-then-b-eq-CR : goal.returns-then-b-eq-CR
-returns-then-b-eq-CR c = search (rules, stray-cr)
-
-pub returns-then-b-eq-LF : goal.returns-then-b-eq-LF
-returns-then-b-eq-LF c = search (rules, stray-lf)
-
-pub loop-i-preserved : goal.loop-i-preserved
-loop-i-preserved c = search (rules, stray-turn)
-
 pub returns : goal.returns
-returns c = search (rules, stray_over)
+returns c =
+    let found = any_from_yields_List (λ b. eqb b cr || eqb b lf) _ _ _ c.any.ensures.ran (YieldsList-from_slice c.args.row.now cc) (λ x b q k. search (rules, tests)) in
+    found ∙ stray_some c.args.row.now

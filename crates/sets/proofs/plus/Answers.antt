@@ -5,4 +5,4 @@ use Rattle.sets.proofs.plus.Goals as goal
 
 pub returns : goal.returns
 unfolding plus_shape
-returns c = rw c.link-follow.ensures
+returns c = rw c.link.ensures

@@ -1,20 +1,14 @@
--- `spans::agrees` meets its contract: the parameters read so far agree.
+-- `spans::agrees` meets its contract: the search for a parameter that differs finds none, or one.
 -- Assumes nothing.
-use Rattle.spans.specs.AgreeLaws.{agreeing_begins, agreeing_unbound, agreeing_same, agrees-not, agrees_all}
-use borrow.Author.Rules.{rules}
+use Rattle.std.proofs.Common.{rules, refl}
+use borrow.Author.Tests.{tests}
+use Rattle.std.proofs.lemmas.Iterator.{cases_from_all, YieldsList-from_range}
+use Rattle.spans.specs.Spans.{Agree}
+use Rattle.spans.specs.AgreeLaws.{Differ, agrees_of}
 use Rattle.spans.proofs.agrees.Goals as goal
 
-pub loop-j-init : goal.loop-j-init
-loop-j-init c = search (rules, agreeing_begins)
-
-pub loop-j-preserved-then-y-eq0 : goal.loop-j-preserved-then-y-eq0
-loop-j-preserved-then-y-eq0 c = search (rules, agreeing_unbound)
-
-pub returns-then-kept-at : goal.returns-then-kept-at
-returns-then-kept-at c = search (rules, agrees-not)
-
-pub loop-j-preserved : goal.loop-j-preserved
-loop-j-preserved c = search (rules, agreeing_same)
-
 pub returns : goal.returns
-returns c = search (rules, agrees_all)
+returns c =
+    agrees_of c.args.kept.now c.args.at c.args.b c.args.from c.args.to _ c.requires.1
+    (cases_from_all _ _ _ (Agree c.args.kept.now c.args.at c.args.b) (Differ c.args.kept.now c.args.at c.args.b) c.all.ensures.ran
+    (YieldsList-from_range c.args.from c.args.to _ refl refl) (λ x q k. search (rules, tests)) (λ x q k. search (rules, tests)))

@@ -1,18 +1,12 @@
 -- `starting::start` meets its contract: both rooms are cleared, and the first kept row is zeros.
 -- Assumes nothing.
-use Rattle.known.specs.KnowingLaws.{taken_property}
-use Rattle.starting.specs.StartLaws.{start_property, start_room, start_taken}
+use Rattle.starting.specs.StartLaws.{start_refused, start_taken}
 use borrow.Author.Rules.{rules}
 use Rattle.starting.proofs.start.Goals as goal
 
-pub returns-then-not-in_range : goal.returns-then-not-in_range
-returns-then-not-in_range c = search (rules, start_property)
+pub returns-in-Ok : goal.returns-in-Ok
+returns-in-Ok c =
+    start_taken _ _ _ _ c.in-Ok.ensures _ c.kept_room.ensures.0 _ _ _ _ (search rules) (search rules) c.seen_room.ensures.0 c.clear.ensures c.clear-in-Ok.ensures c.counts_alone.ensures
 
-pub hopeful-requires : goal.hopeful-requires
-hopeful-requires c = taken_property _ _ c.in_range.ensures c.if-not-in_range.false-raw
-
-pub returns-then-room-first : goal.returns-then-room-first
-returns-then-room-first c = search (rules, start_room)
-
-pub returns : goal.returns
-returns c = search (rules, start_taken)
+pub returns-in-Err : goal.returns-in-Err
+returns-in-Err c = start_refused _ _ _ _ c.in-Err.ensures _ c.number.ensures _ c.counts_alone-in-Err.ensures

@@ -5,10 +5,10 @@ use borrow.Author.Rules.{rules}
 use Rattle.states.proofs.verdicts.Goals as goal
 
 pub loop-s-init : goal.loop-s-init
-loop-s-init c = (search rules, search rules, judged_none _ _ _)
+loop-s-init c = judged_none _ _ _
 
 pub loop-s-preserved : goal.loop-s-preserved
-loop-s-preserved c = (search rules, search rules, search (rules, judged-more))
+loop-s-preserved c = search (rules, judged-more)
 
 pub returns : goal.returns
 returns c = search (rules, judged_all)

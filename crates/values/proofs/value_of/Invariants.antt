@@ -1,11 +1,6 @@
--- What the loops of `values::value_of` keep, and why they end.
+-- What the loop of `values::value_of` keeps.
 use Rattle.values.specs.ValueLaws.{Digits}
-use Prim.Native.Nat.{◌-◌}
-use lib.ListN.{length}
 use Rattle.values.proofs.value_of.Given as goal
 
-abbrev pub invariant-loop-i : goal.invariant-loop-i
-invariant-loop-i l = Digits l.f l.value l.i
-
-abbrev pub decreases-loop-i : goal.decreases-loop-i
-decreases-loop-i l = length l.f - l.i
+abbrev pub invariant-loop-b : goal.invariant-loop-b
+invariant-loop-b l = Digits l.f l.value l.b-index

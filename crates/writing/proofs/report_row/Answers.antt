@@ -11,14 +11,14 @@ moves-requires c = (search rules, search (rules, row_joint))
 pub returns-then-not-moves : goal.returns-then-not-moves
 returns-then-not-moves c = search (rules, report_not)
 
-pub is_among-requires : goal.is_among-requires
-is_among-requires c = search (rules, row_onward)
+pub is_asked-requires : goal.is_asked-requires
+is_asked-requires c = search (rules, row_onward)
 
-pub returns-then-not-is_among : goal.returns-then-not-is_among
-returns-then-not-is_among c = search (rules, report_unasked)
+pub returns-then-not-is_asked : goal.returns-then-not-is_asked
+returns-then-not-is_asked c = search (rules, report_unasked)
 
-pub bounds-verdicts-state : goal.bounds-verdicts-state
-bounds-verdicts-state c = let r = row_onward _ _ _ _ _ _ _ _ _ c.requires.row _ c.next_state-to.ensures in let w = c.wide-state.ensures in search rules
+pub verdict-requires : goal.verdict-requires
+verdict-requires c = search (rules, row_onward)
 
 pub enter-requires : goal.enter-requires
 enter-requires c = search (rules, report_enterable)
