@@ -34,7 +34,7 @@ fn find_kept(known: &Known, kept: &[u32], m: usize, c: Combination) -> Option<(u
     requires { Findable m kept.now }
     ensures { result ≡ found_by known.now.verdicts c (kept_rows m kept.now) }
 {
-    let row = ordered::place::<KEPT_STRIDE>(kept, 0, m, c);
+    let row = ordered::place(kept, 0, KEPT_STRIDE, m, c);
     let at = row * KEPT_STRIDE;
     if m <= row || !combos::equal(bound::row_at(kept, at), c) {
         return None;

@@ -104,7 +104,7 @@ pub fn see(seen: &mut [u32], n: usize, event: &Event)
     ensures { seen.new ≡ seen_table (see width event.now.binding (seen_rows n seen.old)) seen.old }
 {
     if event.fresh {
-        let at = ordered::place::<SEEN_STRIDE>(seen, 0, n, event.binding);
+        let at = ordered::place(seen, 0, SEEN_STRIDE, n, event.binding);
         ordered::insert_seen(seen, n * SEEN_STRIDE, at * SEEN_STRIDE, event.binding);
     }
 }

@@ -1,10 +1,7 @@
--- Where the rows part that precede a combination, and what that says of the seen rows.
+-- The turns of a binary search, and what it finds in the seen rows.
 -- Assumes nothing.
-use Rattle.std.specs.Prelude.{ℕ, zero, suc, ◌+◌, ◌-◌, ◌*◌, ◌<◌, ◌≤◌, ◌≡◌, refl, Bool, true, false, List, [], ◌∷◌, T, length, get_or, take, drop}
-use Rattle.std.specs.Simd.{first_chunks}
-use Rattle.std.specs.List.Sorted.{IsPartitionedBy, IsPartitionPoint}
-use Rattle.std.proofs.Common.{sym, ap, ap₂, ◌∙◌, inl, inr, arith, mul-le-mul_right, zero-add}
-use Rattle.std.proofs.lemmas.List.{get_or-take, get_or-drop}
+use Rattle.std.specs.Prelude.{ℕ, zero, suc, ◌+◌, ◌-◌, ◌*◌, ◌/◌, ◌<◌, ◌≤◌, ◌≡◌, refl, Bool, true, false, List, T, length}
+use Rattle.std.proofs.Common.{sym, ap, ◌∙◌, inl, inr, arith, mul-le-mul_right, zero-add}
 use Rattle.std.proofs.Math.Decide.{dec_lt, ℕ_discrete}
 use Rattle.document.specs.Lists.{In, equal, among, tabulate}
 use Rattle.document.specs.Limits.{width, seen_stride}
@@ -15,71 +12,83 @@ use Rattle.slices.specs.TestsLaws.{so, not_so, true_of, false_of, equal_of, of_e
 use Rattle.slices.specs.OrderLaws.{precedes_irrefl, precedes_trans, Ascends, ascending_of}
 use Rattle.ordered.specs.Rows.{Searchable, Parted, SeenInOrder}
 
+-- a row's numbers lie in the table
+pub row_inside : (base stride n m : ℕ) (t : List ℕ) → Searchable base stride n t → m < n → base + m * stride + width ≤ length t
+row_inside base stride n m t s h =
+    let i = s.inside in
+    let w = s.wide in
+    let g : (m + 1) * stride ≤ n * stride = mul-le-mul_right stride (omega arith) in
+    let e : (m + 1) * stride ≡ m * stride + stride = omega arith in
+    omega arith
+
 -- The search -----------------------------------------------------------------------------------------------------------
 
--- the numbers of a table in rows: number j of row i
-number_in_row : (n k : ℕ) (t : List ℕ) (i j : ℕ) (d : List ℕ) → i < k → j < n → get_or (get_or (first_chunks n k t) i d) j 0 ≡ get_or t (i * n + j) 0
-number_in_row n zero t i j d h g = absurd (omega arith)
-number_in_row n (suc k) t zero j d h g = let e : j ≡ 0 * n + j = omega arith in get_or-take n t j 0 g ∙ ap (λ (x : ℕ). get_or t x 0) e
-number_in_row n (suc k) t (suc i) j d h g =
-    let e : n + (i * n + j) ≡ suc i * n + j = omega arith in
-    number_in_row n k (drop n t) i j d (omega arith) g ∙ get_or-drop n t (i * n + j) 0 ∙ ap (λ (x : ℕ). get_or t x 0) e
+pub record Searching (base stride n : ℕ) (t c : List ℕ) (low high : ℕ) : Type 0 where
+  pub table : Searchable base stride n t
+  pub between : low ≤ high
+  pub within : high ≤ n
+  pub below : (k : ℕ) → k < low → precedes (numbers_at width t (base + k * stride)) c ≡ true
+  pub above : (k : ℕ) → high ≤ k → k < n → precedes (numbers_at width t (base + k * stride)) c ≡ false
 
--- numbers that are the same by their places
-numbers_same : (w : ℕ) (s t : List ℕ) (a b : ℕ) → ((j : ℕ) → j < w → get_or s (a + j) 0 ≡ get_or t (b + j) 0) → numbers_at w s a ≡ numbers_at w t b
-unfolding numbers_at
-numbers_same zero s t a b h = refl
-numbers_same (suc w) s t a b h =
-    let e : a + 0 ≡ a = omega arith in
-    let f : b + 0 ≡ b = omega arith in
-    ap₂ ◌∷◌ (ap (λ (x : ℕ). get_or s x 0) (sym e) ∙ h 0 (omega arith) ∙ ap (λ (x : ℕ). get_or t x 0) f)
-    (numbers_same w s t (a + 1) (b + 1) (λ j g.
-    let p : a + 1 + j ≡ a + suc j = omega arith in
-    let q : b + suc j ≡ b + 1 + j = omega arith in
-    ap (λ (x : ℕ). get_or s x 0) p ∙ h (suc j) (omega arith) ∙ ap (λ (x : ℕ). get_or t x 0) q))
+pub searching_begins : (base stride n : ℕ) (t c : List ℕ) → Searchable base stride n t → Searching base stride n t c 0 n
+searching_begins base stride n t c s = record {
+  table = s;
+  between = omega arith;
+  within = omega arith;
+  below = λ k h. absurd (omega arith);
+  above = λ k h g. absurd (omega arith);
+}
 
--- whether a row's combination precedes c
-abbrev pub Before : List ℕ → List ℕ → Bool
-Before c row = precedes (numbers_at width row 0) c
-
-module _ (base stride n k : ℕ) (t c : List ℕ) (rows : List (List ℕ)) (e : rows ≡ first_chunks stride k (take (length t - base) (drop base t))) (h : n ≤ k) (o : length (take n rows) ≡ n) (u : Searchable base stride n t) where
-  row_is : (i : ℕ) (d : List ℕ) → i < n → numbers_at width (get_or (take n rows) i d) 0 ≡ numbers_at width t (base + i * stride)
-  row_is i d g = numbers_same width (get_or (take n rows) i d) t 0 (base + i * stride) (λ j l.
-      let w = u.wide in
-      let v = u.inside in
-      let y : (i + 1) * stride ≤ n * stride = mul-le-mul_right stride (omega arith) in
-      let x : (i + 1) * stride ≡ i * stride + stride = omega arith in
-      let p : base + (i * stride + j) ≡ base + i * stride + j = omega arith in
-      let z : 0 + j ≡ j = omega arith in
-      ap (λ (x : ℕ). get_or (get_or (take n rows) i d) x 0) z
-      ∙ ap (λ (x : List ℕ). get_or x j 0) (get_or-take n rows i d g ∙ ap (λ (x : List (List ℕ)). get_or x i d) e)
-      ∙ number_in_row stride k (take (length t - base) (drop base t)) i j d (omega arith) (omega arith)
-      ∙ get_or-take (length t - base) (drop base t) (i * stride + j) 0 (omega arith)
-      ∙ get_or-drop base t (i * stride + j) 0
-      ∙ ap (λ (x : ℕ). get_or t x 0) p)
-
-  before_at : (i : ℕ) (d : List ℕ) → i < n → Before c (get_or (take n rows) i d) ≡ precedes (numbers_at width t (base + i * stride)) c
-  before_at i d g = ap (λ r. precedes r c) (row_is i d g)
-
-  pub rows_part : IsPartitionedBy (Before c) (take n rows)
-  rows_part i j d g l q =
-      elim (ℕ_discrete i j) [
-        | yes y ↦ rw y q
-        | no m ↦ before_at i d (omega arith) ∙ true_of (precedes (numbers_at width t (base + i * stride)) c) (precedes_trans
-            (numbers_at width t (base + i * stride)) (numbers_at width t (base + j * stride)) c
-            (so (u.order i j (omega arith) (omega arith))) (so (sym (before_at j d (omega arith)) ∙ q)))
-      ]
-
-  pub parted_of : (r : ℕ) → r ≤ length (take n rows) → IsPartitionPoint (λ y. Before c y ≡ true) (λ y. Before c y ≡ false) (take n rows) r → Parted base stride n t c r
-  parted_of r g p = record {
-    within = omega arith;
-    low = λ i l. sym (before_at i [] (omega arith)) ∙ p.0 i [] (omega arith) l;
-    high = λ i l m. sym (before_at i [] m) ∙ p.1 i [] l (omega arith);
+module _ (base stride n : ℕ) (t c : List ℕ) (low high m : ℕ) (row : List ℕ) (f : Bool) where
+  pub searching_up : Searching base stride n t c low high → low ≤ m → m < high
+      → row ≡ numbers_at width t (base + m * stride) → f ≡ precedes row c → f ≡ true → Searching base stride n t c (m + 1) high
+  searching_up s l h e q p = record {
+    table = s.table;
+    between = omega arith;
+    within = s.within;
+    below = λ k g. elim (ℕ_discrete k m) [
+      | yes z ↦ rw z here
+      | no z ↦ true_of (precedes (numbers_at width t (base + k * stride)) c) (precedes_trans
+          (numbers_at width t (base + k * stride)) (numbers_at width t (base + m * stride)) c
+          (so (s.table.order k m (omega arith) (let w = s.within in omega arith))) (so here))
+    ];
+    above = s.above;
   }
+    where
+      here : precedes (numbers_at width t (base + m * stride)) c ≡ true
+      here = ap (λ r. precedes r c) (sym e) ∙ sym q ∙ p
 
--- of no rows
-pub parted_none : (base stride n : ℕ) (t c : List ℕ) → n ≡ 0 → Parted base stride n t c 0
-parted_none base stride n t c q = record { within = omega arith; low = λ k h. absurd (omega arith); high = λ k h g. absurd (omega arith) }
+  pub searching_down : Searching base stride n t c low high → low ≤ m → m < high
+      → row ≡ numbers_at width t (base + m * stride) → f ≡ precedes row c → f ≡ false → Searching base stride n t c low m
+  searching_down s l h e q p = record {
+    table = s.table;
+    between = l;
+    within = let w = s.within in omega arith;
+    below = s.below;
+    above = λ k g i. elim (ℕ_discrete k m) [
+      | yes z ↦ rw z here
+      | no z ↦ false_of (precedes (numbers_at width t (base + k * stride)) c) (λ x. not_so here (precedes_trans
+          (numbers_at width t (base + m * stride)) (numbers_at width t (base + k * stride)) c
+          (so (s.table.order m k (omega arith) i)) x))
+    ];
+  }
+    where
+      here : precedes (numbers_at width t (base + m * stride)) c ≡ false
+      here = ap (λ r. precedes r c) (sym e) ∙ sym q ∙ p
+
+-- the middle row lies in the table
+pub middle_inside : (base stride n : ℕ) (t c : List ℕ) (low high : ℕ) → Searching base stride n t c low high → low < high
+    → base + (low + (high - low) / 2) * stride + width ≤ length t
+middle_inside base stride n t c low high s h =
+    row_inside base stride n (low + (high - low) / 2) t s.table (let w = s.within in omega arith)
+
+pub searching_ends : (base stride n : ℕ) (t c : List ℕ) (low high : ℕ) → Searching base stride n t c low high → high ≤ low
+    → Parted base stride n t c low
+searching_ends base stride n t c low high s h = record {
+  within = let b = s.between in let w = s.within in omega arith;
+  low = s.below;
+  high = λ k g i. s.above k (omega arith) i;
+}
 
 -- The seen rows --------------------------------------------------------------------------------------------------------
 

@@ -12,6 +12,6 @@ pub fn enter(t: &mut [u32], base: usize, n: usize, c: Combination, s: u32)
     requires { Enterable base n t.old }
     ensures { Entered base n c s t.old t.new }
 {
-    let at = ordered::place::<KEPT_STRIDE>(t, base, n, c);
+    let at = ordered::place(t, base, KEPT_STRIDE, n, c);
     ordered::insert_kept(t, base + n * KEPT_STRIDE, base + at * KEPT_STRIDE, c, s);
 }
