@@ -14,7 +14,6 @@ use Rattle.document.specs.Limits.{width, kept_stride, report_stride}
 use Rattle.document.specs.OneEvent.{Kept, see, kept_after, reports_after}
 use Rattle.document.specs.Tables.{seen_rows, kept_rows, report_room, kept_table}
 use Rattle.slices.specs.TestsLaws.{so, not_of, and_of}
-use Rattle.refusals.specs.declared.Refusal.{Refusal}
 use Rattle.ordered.specs.Writes.{ZeroIn}
 use Rattle.tables.specs.Tables.{kept_from}
 use Rattle.tables.specs.TablesLaws.{kept_move, kept_two, kept_rows_lem, length-kept_from}
@@ -25,6 +24,7 @@ use Rattle.moves.specs.ReadyLaws.{length-see}
 use Rattle.foreseen.specs.Foreseen.{foreseen_of}
 use Rattle.foreseen.specs.ForeseenLaws.{foreseen_taken}
 use Rattle.foreseen.specs.declared.Foreseen.{Foreseen}
+use Rattle.foreseen.specs.declared.Crowded.{Crowded}
 use Rattle.keeping.specs.Keeping.{sifted}
 use Rattle.keeping.specs.SiftedLaws.{sifted_right}
 use Rattle.keeping.specs.GrownLaws.{grown-old}
@@ -256,7 +256,7 @@ module _ (next : List ℕ) (states e n m from : ℕ) (b seen kept reports : List
       reports_to = reports-told;
     }
 
-    pub advanced_foreseen : ◌≡◌ {A = Result Foreseen Refusal} (Ok (record { seen = n; kept = r.kept; reported = r.reported; fresh = false })) (foreseen_of next hopes asks from n m seen kept reports e b)
+    pub advanced_foreseen : ◌≡◌ {A = Result Foreseen Crowded} (Ok (record { seen = n; kept = r.kept; reported = r.reported; fresh = false })) (foreseen_of next hopes asks from n m seen kept reports e b)
     unfolding foreseen_of outcome_by
     advanced_foreseen =
         (λ i. Ok (record { seen = sym seen_count_lem i; kept = sym after_count i; reported = sym tales_count i; fresh = sym old i }))

@@ -48,6 +48,7 @@ fn asked_by(kind: Kind) -> Option<Verdict>
 }
 
 // After the pattern: `@match`, `@fail` or both, each once, in either order, and nothing more.
+#[inline(always)]
 fn asks(text: &[u8], a: Part) -> Result<Parsed, Stopped>
     requires { Begins text.now a.at }
     ensures { Asks text.now a result }

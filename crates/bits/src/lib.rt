@@ -3,7 +3,7 @@
 
 #![tactic(auto)]
 
-ghost use Rattle.std.specs.Prelude.{◌≡◌, ◌<◌, ◌^◌};
+ghost use Rattle.std.specs.Prelude.{◌≡◌, cond, ◌<◌, ◌^◌};
 ghost use Rattle.document.specs.Positions.{holds};
 ghost use Rattle.bits.specs.Bits.{meets};
 
@@ -21,6 +21,13 @@ pub fn only(k: usize) -> u64
     ensures { result ≡ 2 ^ k }
 {
     1u64 << k
+}
+
+// A set where a test holds, else the empty set.
+pub fn set_if(test: bool, set: u64) -> u64
+    ensures { result ≡ cond test set 0 }
+{
+    if test { set } else { 0 }
 }
 
 // Whether two sets have a number in common.

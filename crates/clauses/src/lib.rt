@@ -44,5 +44,10 @@ pub fn zero_between(t: &[u32], from: usize, to: usize) -> bool
     requires { to ≤ length t.now }
     ensures { result ≡ zero_between from to t.now }
 {
-    t[..to].iter().skip(from).all(|x| *x == 0)
+    for p in from..to {
+        if t[p] != 0 {
+            return false;
+        }
+    }
+    true
 }

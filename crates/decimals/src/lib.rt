@@ -10,8 +10,11 @@ ghost use Rattle.document.specs.Printing.{decimal};
 ghost use Rattle.decimals.specs.Written.{Written};
 ghost use Rattle.decimals.specs.Decimals.{last_digits};
 
+// Ten to the power of it is the largest power of ten of 64 bits: a number that reaches it has one digit more, and no other has.
+pub const SURE_DIGITS: usize = 19;
+
 // How many digits a number of the machine can have.
-pub const MOST_DIGITS: usize = 20;
+pub const MOST_DIGITS: usize = SURE_DIGITS + 1;
 
 // Bytes -----------------------------------------------------------------------------------------------------------------
 

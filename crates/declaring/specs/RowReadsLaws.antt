@@ -37,7 +37,7 @@ module _ (text : List ℕ) (at end : ℕ) (f : Fields) (e : end ≡ at + length 
   row-length : length (take (end - at) (drop at text)) ≡ end - at
   row-length = let w = row_within text at end e h in length-take-le (end - at) (drop at text) (rw length-drop (omega arith))
 
-  field_inside : (k : ℕ) → at + (place_at f.places k).start + (place_at f.places k).size ≤ length text
+  pub field_inside : (k : ℕ) → at + (place_at f.places k).start + (place_at f.places k).size ≤ length text
   field_inside k =
       let w = row_within text at end e h in
       let i = s.inside k in

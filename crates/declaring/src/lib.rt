@@ -13,6 +13,7 @@ use refusals::Refusal;
 pub const TEXT_BYTES: usize = 4096;
 
 // A reading with the event of the row at a place, or that row's refusal.
+#[inline(always)]
 fn with_row(text: &[u8], at: usize, t: Reading) -> Result<Reading, Refusal>
     requires { Placed text.now t × (at ≤ length text.now) }
     ensures { RowReads text.now at t result }

@@ -55,7 +55,7 @@ module _ (row : List ℕ) (n : ℕ) (m : Option ℕ) (q : m ≡ counted_fields r
   right : (some is_barred row ≡ false) × (length (fields row) ≡ n + 1)
   right = counted (some is_barred row) (sym (count-same m (n + 1) b t f) ∙ q)
 
-  count_clean : some is_barred row ≡ false
+  pub count_clean : some is_barred row ≡ false
   count_clean = right.0
 
   pub count_right : length (fields row) ≡ n + 1

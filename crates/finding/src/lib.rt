@@ -30,6 +30,7 @@ pub struct Looked {
 }
 
 // The kept state of a combination and its verdict; nothing where it is not kept.
+#[inline(always)]
 fn find_kept(known: &Known, kept: &[u32], m: usize, c: Combination) -> Option<(u32, u8)>
     requires { Findable m kept.now }
     ensures { result ≡ found_by known.now.verdicts c (kept_rows m kept.now) }
@@ -44,6 +45,7 @@ fn find_kept(known: &Known, kept: &[u32], m: usize, c: Combination) -> Option<(u
 }
 
 // The kept state of the join of the seen bindings that a combination includes, and its verdict; refused 11, 12, 23.
+#[inline(always)]
 fn find(
     p: Property,
     seen: &[u32],

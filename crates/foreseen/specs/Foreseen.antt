@@ -12,6 +12,7 @@ use Rattle.refusals.specs.declared.Refusal.TheVariants.{NoRoomForSeen, NoRoomFor
 use Rattle.moves.specs.Steps.{one, is_new, step_of, state_in, outcome_by}
 use Rattle.foreseen.specs.declared.Weight.{Weight}
 use Rattle.foreseen.specs.declared.Foreseen.{Foreseen}
+use Rattle.foreseen.specs.declared.Crowded.{Crowded}
 
 -- what a row adds to the kept rows after the event, and to its reports
 unfoldable pub weight_of : List ℕ → ℕ → ℕ → ℕ → List ℕ → List (List ℕ) → Kept → Weight
@@ -34,9 +35,9 @@ room_refusal seen_rows seen_room kept_rows kept_room reports report_room =
     (cond (ltb kept_room kept_rows) (Err NoRoomForKept)
     (cond (ltb report_room reports) (Err NoRoomForReports) (Ok tt)))
 
-abbrev pub unless_refused : Result (Unit {0}) Refusal → Foreseen → Result Foreseen Refusal
+abbrev pub unless_refused : Result (Unit {0}) Refusal → Foreseen → Result Foreseen Crowded
 unless_refused (Ok u) f = Ok f
-unless_refused (Err r) f = Err r
+unless_refused (Err r) f = Err (record { refusal = r; outcome = f })
 
 -- an outcome, counted, whatever room there is
 unfoldable pub comes_to : List ℕ → ℕ → ℕ → ℕ → ℕ → List ℕ → List ℕ → ℕ → List ℕ → Foreseen
@@ -44,12 +45,12 @@ comes_to next hopes asks n m seen kept e b =
     let o = outcome_by next hopes asks (seen_rows n seen) (kept_rows m kept) e b in
     record { seen = length o.seen; kept = length o.kept; reported = length o.rows; fresh = is_new b (seen_rows n seen) }
 
--- an outcome, counted, if there is room for it
-unfoldable pub counted : ℕ → List ℕ → List ℕ → List ℕ → Bool → Outcome → Result Foreseen Refusal
+-- an outcome, counted; with the refusal beside it where there is no room for it
+unfoldable pub counted : ℕ → List ℕ → List ℕ → List ℕ → Bool → Outcome → Result Foreseen Crowded
 counted from seen kept reports fresh o =
     unless_refused (room_refusal (length o.seen) (seen_room seen) (length o.kept) (kept_room kept) (length o.rows) (report_room (drop from reports)))
     (record { seen = length o.seen; kept = length o.kept; reported = length o.rows; fresh = fresh })
 
-unfoldable pub foreseen_of : List ℕ → ℕ → ℕ → ℕ → ℕ → ℕ → List ℕ → List ℕ → List ℕ → ℕ → List ℕ → Result Foreseen Refusal
+unfoldable pub foreseen_of : List ℕ → ℕ → ℕ → ℕ → ℕ → ℕ → List ℕ → List ℕ → List ℕ → ℕ → List ℕ → Result Foreseen Crowded
 foreseen_of next hopes asks from n m seen kept reports e b =
     counted from seen kept reports (is_new b (seen_rows n seen)) (outcome_by next hopes asks (seen_rows n seen) (kept_rows m kept) e b)

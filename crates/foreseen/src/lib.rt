@@ -1,6 +1,6 @@
 // What an event comes to before anything is written (document 01, "One event"): the rows of both tables after it, its reports,
 // and the refusal for want of room, 15 to 17. "Room freed by an event serves the same event". Above `moves`.
-// Interior: `foresee`, for a session that was judged.
+// Interior: `come_to` and `foresee`, for a session that was judged.
 
 #![tactic(auto)]
 
@@ -39,6 +39,13 @@ pub struct Foreseen {
     pub kept: usize,
     pub reported: usize,
     pub fresh: bool,
+}
+
+// That there is no room for an event: the refusal, and what the event comes to all the same.
+#[derive(Clone, Copy)]
+pub struct Crowded {
+    pub refusal: Refusal,
+    pub outcome: Foreseen,
 }
 
 // What kept row i adds.
@@ -130,7 +137,7 @@ pub fn come_to(
     }
 }
 
-// The same, or the refusal for want of room. Nothing is written.
+// The same, with the refusal beside it where there is no room for it. Nothing is written.
 pub fn foresee(
     known: &Known,
     seen: Seen,
@@ -140,7 +147,7 @@ pub fn foresee(
     from: usize,
     e: usize,
     b: Combination,
-) -> Result<Foreseen, Refusal>
+) -> Result<Foreseen, Crowded>
     requires { Steady known.now.next known.now.states e seen.count m seen.numbers.now kept.now }
     ensures { result ≡ foreseen_of known.now.next known.now.hopeful known.now.asked from seen.entry.count m seen.entry.numbers.now kept.now reports.now e b }
 {
@@ -150,6 +157,11 @@ pub fn foresee(
         kept: rooms::kept_room(kept),
         reports: report_room(reports, from),
     };
-    rooms.hold(o)?;
-    Ok(o)
+    match rooms.hold(o) {
+        Ok(()) => Ok(o),
+        Err(refusal) => Err(Crowded {
+            refusal,
+            outcome: o,
+        }),
+    }
 }

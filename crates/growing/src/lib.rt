@@ -29,6 +29,7 @@ fn place(found: &[u32], set: u32) -> Option<usize>
 
 impl Grown {
     // The number of a set, which joins those found unless it is one of them; none where it is a 65th.
+    #[inline(always)]
     fn number(&mut self, set: u32) -> Option<usize>
         requires { self.old.count ≤ most_states }
         ensures { Numbers set self.old self.new result }
@@ -46,6 +47,7 @@ impl Grown {
     }
 
     // The row of state i, whose events lead to the sets `to`: each gets its number; none as soon as one has none.
+    #[inline(always)]
     fn row(&mut self, i: usize, to: &[u32]) -> Option<()>
         requires { (self.old.count ≤ most_states) × (i < most_states) × (length to.now ≤ most_events) }
         ensures { Rows to.now (length to.now) i self.old self.new result }
@@ -60,6 +62,7 @@ impl Grown {
 
 // All states, found by going through them in number order and, within one, through the events in number order; none where
 // there are more than 64.
+#[inline(always)]
 pub fn grow(
     after: &[u32; NUMBERS],
     named: &[u32; MOST_EVENTS],

@@ -86,6 +86,13 @@ rows_stand stride room parameters n t =
     ((leb n room && ascending (rows_of stride n t))
     && every (zero_past parameters) (rows_of stride n t)) && zero_between (n * stride) (room * stride) t
 
+-- the same in two parts: in order, before what else a table is asked; and the rest
+unfoldable pub rows_ordered : ℕ → ℕ → ℕ → List ℕ → Bool
+rows_ordered stride room n t = leb n room && ascending (rows_of stride n t)
+
+unfoldable pub rows_clean : ℕ → ℕ → ℕ → ℕ → List ℕ → Bool
+rows_clean stride room parameters n t = every (zero_past parameters) (rows_of stride n t) && zero_between (n * stride) (room * stride) t
+
 -- a test that was made after one that holds, or left out after one that does not
 pub and_after : (v a b : Bool) → v ≡ a → v ≡ true → b ≡ (a && b)
 and_after v a b e h = rw (sym e ∙ h)
@@ -290,6 +297,54 @@ module _ (parameters n room : ℕ) (t : List ℕ) (f : Bool) (e : room ≡ seen_
 
   pub seen_left : f ≡ false → f ≡ seen_stands parameters n t
   seen_left h = and_left f _ _ rows_stand_seen h ∙ seen_in_rows parameters n t
+
+-- The tests of a table, in the order in which they are made ------------------------------------------------------------
+
+and_assoc : (a b d : Bool) → ((a && b) && d) ≡ (a && (b && d))
+and_assoc false b d = refl
+and_assoc true b d = refl
+
+module _ (n room stride : ℕ) (t : List ℕ) (f : Bool) (q : f ≡ rows_ordered stride room n t) where
+  pub ordered_fits : f ≡ true → n ≤ room
+  unfolding rows_ordered
+  ordered_fits h = let a = both _ _ (sym q ∙ h) in leb-true n room a.0
+
+module _ (parameters n room : ℕ) (t : List ℕ) (f : Bool) (e : room ≡ seen_room t) (q : f ≡ rows_ordered seen_stride room n t) where
+  in_room : f ≡ rows_ordered seen_stride (seen_room t) n t
+  in_room = q ∙ ap (λ r. rows_ordered seen_stride r n t) e
+
+  seen_split : rows_ordered seen_stride (seen_room t) n t && (every not_empty (rows_of seen_stride n t) && rows_clean seen_stride (seen_room t) parameters n t)
+      ≡ seen_stands parameters n t
+  unfolding rows_ordered rows_clean seen_stands
+  seen_split = and_assoc (leb n (seen_room t)) (ascending (rows_of seen_stride n t))
+      (every not_empty (rows_of seen_stride n t) && (every (zero_past parameters) (rows_of seen_stride n t) && zero_between (n * seen_stride) (seen_room t * seen_stride) t))
+
+  pub ordered_inside : f ≡ true → n * seen_stride ≤ length t
+  ordered_inside h = let l = ordered_fits n room seen_stride t f q h in let i = seen_room-holds t in omega arith
+
+  pub seen_unordered : f ≡ false → f ≡ seen_stands parameters n t
+  seen_unordered h = and_left f _ _ in_room h ∙ seen_split
+
+  module _ (h : f ≡ true) (g : Bool) (p : g ≡ every not_empty (rows_of seen_stride n t)) where
+    pub seen_unbound : g ≡ false → g ≡ seen_stands parameters n t
+    seen_unbound z = and_left g _ _ p z ∙ and_after f _ _ in_room h ∙ seen_split
+
+    pub seen_clean : g ≡ true → (r : Bool) → r ≡ rows_clean seen_stride room parameters n t → r ≡ seen_stands parameters n t
+    seen_clean z r w =
+        w ∙ ap (λ x. rows_clean seen_stride x parameters n t) e ∙ and_after g _ _ p z ∙ and_after f _ _ in_room h ∙ seen_split
+
+module _ (parameters m room : ℕ) (t : List ℕ) (f : Bool) (e : room ≡ kept_room t) (q : f ≡ rows_ordered kept_stride room m t) where
+  kept_split : rows_ordered kept_stride (kept_room t) m t && rows_clean kept_stride (kept_room t) parameters m t ≡ kept_stands parameters m t
+  unfolding rows_ordered rows_clean kept_stands
+  kept_split = and_assoc (leb m (kept_room t)) (ascending (rows_of kept_stride m t))
+      (every (zero_past parameters) (rows_of kept_stride m t) && zero_between (m * kept_stride) (kept_room t * kept_stride) t)
+
+  pub kept_unordered : f ≡ false → f ≡ kept_stands parameters m t
+  kept_unordered h = and_left f _ _ (q ∙ ap (λ r. rows_ordered kept_stride r m t) e) h ∙ kept_split
+
+  pub kept_clean : f ≡ true → (r : Bool) → r ≡ rows_clean kept_stride room parameters m t → r ≡ kept_stands parameters m t
+  kept_clean h r w =
+      w ∙ ap (λ x. rows_clean kept_stride x parameters m t) e ∙ and_after f _ _ (q ∙ ap (λ r. rows_ordered kept_stride r m t) e) h ∙ kept_split
 
 -- What the parts need, and the returns of the check --------------------------------------------------------------------
 

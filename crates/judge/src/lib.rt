@@ -10,7 +10,7 @@ ghost use Rattle.document.specs.Positions.{holds};
 ghost use Rattle.document.specs.Tables.{seen_rows, kept_rows};
 ghost use Rattle.clauses.specs.Rows.{Rows};
 ghost use Rattle.judge.specs.Sound.{rightly_kept_by, sound_by, session_of};
-ghost use Rattle.judge.specs.SoundLaws.{rows_stand, seen_stands, kept_stands};
+ghost use Rattle.judge.specs.SoundLaws.{rows_ordered, rows_clean, seen_stands, kept_stands};
 
 use limits::{Combination, KEPT_STRIDE, SEEN_STRIDE, WIDTH};
 use ordered::Seen;
@@ -36,32 +36,43 @@ fn rows_rightly_kept(kept: &[u32], m: usize, states: usize, hopeful: u64, seen: 
     })
 }
 
-// Whether the first n rows of a table stand by themselves: they are within the room and ascend, none binds a number past the
-// parameters, and the room past them is 0.
-#[tactic(auto, unfolding(crate::specs::SoundLaws::rows_stand))]
-fn rows_stand(t: &[u32], stride: usize, room: usize, n: usize, parameters: usize) -> bool
+// Whether the first n rows of a table are within the room and ascend.
+#[tactic(auto, unfolding(crate::specs::SoundLaws::rows_ordered))]
+fn rows_ordered(t: &[u32], stride: usize, room: usize, n: usize) -> bool
     requires { Rows stride room t.now }
-    ensures { result ≡ rows_stand stride room parameters n t.now }
+    ensures { result ≡ rows_ordered stride room n t.now }
 {
-    n <= room
-        && clauses::rows_ascend(t, stride, n)
-        && clauses::rows_within(t, stride, n, parameters)
+    n <= room && clauses::rows_ascend(t, stride, n)
+}
+
+// Whether none of them binds a number past the parameters, and the room past them is 0.
+#[tactic(auto, unfolding(crate::specs::SoundLaws::rows_clean))]
+fn rows_clean(t: &[u32], stride: usize, room: usize, n: usize, parameters: usize) -> bool
+    requires { Rows stride room t.now × (n ≤ room) }
+    ensures { result ≡ rows_clean stride room parameters n t.now }
+{
+    clauses::rows_within(t, stride, n, parameters)
         && clauses::zero_between(t, n * stride, room * stride)
 }
 
-// The seen table, none of whose rows is empty.
+// The seen table, none of whose rows is empty: of rows that ascend only the first can be, so that one is found before the room
+// past them is read.
 fn seen_stands(seen: &[u32], n: usize, parameters: usize) -> bool
     ensures { result ≡ seen_stands parameters n seen.now }
 {
-    rows_stand(seen, SEEN_STRIDE, rooms::seen_room(seen), n, parameters)
-        && clauses::rows_bound(seen, n)
+    let room = rooms::seen_room(seen);
+    if !rows_ordered(seen, SEEN_STRIDE, room, n) {
+        return false;
+    }
+    clauses::rows_bound(seen, n) && rows_clean(seen, SEEN_STRIDE, room, n, parameters)
 }
 
 // The kept table, whose rows may be empty.
 fn kept_stands(kept: &[u32], m: usize, parameters: usize) -> bool
     ensures { result ≡ kept_stands parameters m kept.now }
 {
-    rows_stand(kept, KEPT_STRIDE, rooms::kept_room(kept), m, parameters)
+    let room = rooms::kept_room(kept);
+    rows_ordered(kept, KEPT_STRIDE, room, m) && rows_clean(kept, KEPT_STRIDE, room, m, parameters)
 }
 
 // Whether the session is taken; where not, it is refused 12. It takes the counts of parameters and states and the hopeful

@@ -37,7 +37,7 @@ below_first (suc n) f = ap (λ b. f (suc n) && b) (below_first n f) ∙ swap (f 
     swap false false c = refl
 
 -- the first n of two lists are the same
-sets_same : (n : ℕ) (a b : List ℕ) → n ≤ length a → n ≤ length b → pointwise eqb (take n a) (take n b) ≡ same_sets a b n
+pub sets_same : (n : ℕ) (a b : List ℕ) → n ≤ length a → n ≤ length b → pointwise eqb (take n a) (take n b) ≡ same_sets a b n
 unfolding same_sets every_below
 sets_same zero a b h l = refl
 sets_same (suc n) [] b h l = absurd (omega arith)
@@ -61,7 +61,7 @@ module _ (t : Reading) (p : Property) where
   sets_decide e d h l r q =
       q ∙ sets_same p.events p.sets t.sets h l ∙ rw (eq-eqb p.parameters t.parameters e, eq-eqb p.events t.events d)
 
-agrees_same : (text : List ℕ) (d : Declared) (t : Reading) (p : Property) → Stands text d t → agrees_by t p ≡ agrees d p
+pub agrees_same : (text : List ℕ) (d : Declared) (t : Reading) (p : Property) → Stands text d t → agrees_by t p ≡ agrees d p
 unfolding agrees_by agrees same_sets set_of
 agrees_same text d t p w =
     let f : ◌≡◌ {A = ℕ → Bool} (λ e. eqb (get_or p.sets e 0) (get_or (padded d.sets) e 0)) (λ e. eqb (get_or p.sets e 0) (get_or d.sets e 0)) =

@@ -16,7 +16,7 @@ use readings::Reading;
 use refusals::Refusal;
 
 // What a call goes by once it was judged good: the declarations that it was given, what they say, and what is known of the table.
-#[derive(Drop)]
+#[derive(Clone, Copy)]
 pub struct Judged<'a> {
     pub declarations: &'a [u8],
     pub reading: Reading,
@@ -35,6 +35,7 @@ fn table_agrees(reading: &Reading, p: &Property) -> bool
 }
 
 // What row and run judge first: 1 to 5, 11, 25, 12.
+#[inline(always)]
 pub fn judge_call<'a>(
     declarations: &'a [u8],
     p: Property,

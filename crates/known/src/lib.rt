@@ -15,6 +15,7 @@ use property::Taken;
 use refusals::Refusal;
 
 // What is worked out once of a property that is taken.
+#[inline(always)]
 pub fn work_out(taken: &Taken) -> Known
     ensures { KnownOf (meaning taken.now.property) result }
 {
@@ -30,6 +31,7 @@ pub fn work_out(taken: &Taken) -> Known
 }
 
 // What is known of a table that is taken, over a session that it judges sound; refused 12 where it does not.
+#[inline(always)]
 pub fn judged(
     taken: &Taken,
     seen: &[u32],

@@ -1,4 +1,4 @@
-// What can come next (document 01, "The table"): the sets of numbers that the events lead to from a set. Above `bits`.
+// What can come next (document 01, "The table"): the sets of numbers that the events lead to from a set. Above `sets`.
 
 #![tactic(auto)]
 
@@ -14,9 +14,7 @@ fn nexts(after: &[u32; NUMBERS], set: u32) -> u32
 {
     let mut found = 0;
     for k in 0..NUMBERS {
-        if bits::has(u64::from(set), k) {
-            found |= after[k];
-        }
+        found |= if sets::has(set, k) { after[k] } else { 0 };
     }
     found
 }
@@ -31,5 +29,9 @@ pub fn moves(
     ensures { result ≡ moves_of after.now named.now base set }
 {
     let reach = nexts(after, set);
-    named.map(|name| reach & name | base)
+    let mut to = [0; MOST_EVENTS];
+    for e in 0..MOST_EVENTS {
+        to[e] = reach & named[e] | base;
+    }
+    to
 }

@@ -50,6 +50,7 @@ pub fn refused_at(refusal: Refusal, at: usize) -> Stopped
 }
 
 // An event name, which gets the next number, or `epsilon`, which gets none; 7 before 8.
+#[inline(always)]
 pub fn word(source: &Source, at: usize, t: Step, names: usize) -> Result<Part, Stopped>
     requires { Ready source.now.text.now at names × (Looks source.now.text.now at t × (t.kind ≡ Word)) }
     ensures { (depth : ℕ) → Answers (read_atom (events_of source.now)) 0 source.now.text.now at names depth result }
@@ -77,6 +78,7 @@ pub fn word(source: &Source, at: usize, t: Step, names: usize) -> Result<Part, S
 }
 
 // What the `*` and `+` after an atom make of it.
+#[inline(always)]
 pub fn marks(text: &[u8], a: Part) -> Part
     requires { Begins text.now a.at }
     ensures { Marked text.now a result }
@@ -85,15 +87,11 @@ pub fn marks(text: &[u8], a: Part) -> Part
     // Stays: it goes from mark to mark, until there is none.
     loop {
         let t = tokens::look(text, r.at);
-        let shape = match t.kind {
-            Kind::Star => sets::star(r.shape),
-            Kind::Plus => sets::plus(r.shape),
+        match t.kind {
+            Kind::Star => r.shape = sets::star(r.shape),
+            Kind::Plus => r.shape = sets::plus(r.shape),
             _ => return r,
-        };
-        r = Part {
-            at: t.next,
-            names: r.names,
-            shape,
-        };
+        }
+        r.at = t.next;
     }
 }

@@ -16,6 +16,7 @@ pub const MOST_OPEN: usize = 16;
 // An event name, `epsilon`, or an alternative in parentheses. The nesting is judged before the alternative is read. What remains
 // is a call for each part side by side or between bars: at most some 510, of `epsilon`, in 4,096 bytes.
 #[cycle(alternative_atom_repetition_sequence)]
+#[inline(always)]
 pub fn atom(source: &Source, at: usize, names: usize, depth: usize) -> Result<Part, Stopped>
     requires { Ready source.now.text.now at names }
     ensures { Answers (read_atom (events_of source.now)) 0 source.now.text.now at names depth result }

@@ -25,6 +25,7 @@ pub struct Names<'a> {
 
 impl Names<'_> {
     // Where a name stands first among them.
+    #[inline(always)]
     pub fn find(&self, name: &[u8]) -> Option<usize>
         ensures { FoundAs name.now (names_at self.now.text.now self.now.count self.now.places.now) self.now.count result }
     {

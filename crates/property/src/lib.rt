@@ -16,7 +16,7 @@ use verdicts::{ALL_ASKED, Verdict};
 
 mod taken;
 
-const LAST_VERDICT: u8 = Verdict::Fail as u8;
+pub const LAST_VERDICT: u8 = Verdict::Fail as u8;
 
 // Counts, the parameters that each event binds (bit k for parameter k), the state that event e leads to from state s (at
 // s * 16 + e), the verdict of each state, and the verdicts asked for. Entries past the counts mean nothing.

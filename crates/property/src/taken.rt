@@ -17,6 +17,7 @@ pub struct Taken {
 impl Property {
     // The table, as one that is taken; refused 11 where it is not within its ranges.
     #[tactic(auto, using(crate::specs::RangeLaws::in_range_within))]
+    #[inline(always)]
     pub fn taken(self) -> Result<Taken, Refusal>
         ensures { MatchResult result (λ t. t.property ≡ self) (λ e. (e ≡ BadProperty) × (in_range (meaning self) ≡ false)) }
     {

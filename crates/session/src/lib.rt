@@ -20,6 +20,7 @@ use refusals::Refusal;
 use steps::Answered;
 
 // What is known of the table, where the event may be stepped; refused 11, 12, 13, 14.
+#[inline(always)]
 fn judge_event(
     p: Property,
     seen: &[u32],

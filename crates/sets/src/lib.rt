@@ -7,6 +7,7 @@
 
 ghost use Rattle.std.specs.Prelude.{◌≡◌, ◌≤◌, ◌<◌};
 ghost use Rattle.document.specs.Patterns.{epsilon, name};
+ghost use Rattle.document.specs.Positions.{holds};
 ghost use Rattle.document.specs.Limits.{most_names, most_events};
 ghost use Rattle.sets.specs.Shapes.{merge_of, link_of, shape_of, either_shape, then_shape, star_shape, plus_shape};
 
@@ -22,7 +23,18 @@ pub struct Shape {
     pub named: [u32; MOST_EVENTS],
 }
 
+// Whether a set holds a number: `bits::has` over half the bits, since the steps of a loop over 32 numbers then stand side by side
+// in half as many words.
+#[inline(always)]
+pub fn has(set: u32, k: usize) -> bool
+    requires { k < 32 }
+    ensures { result ≡ holds set k }
+{
+    set >> k & 1 == 1
+}
+
 // The sets of a and b joined, place by place.
+#[inline(always)]
 fn merge<const N: usize>(a: &[u32; N], b: &[u32; N]) -> [u32; N]
     ensures { result ≡ merge_of N a.now b.now }
 {
@@ -34,19 +46,19 @@ fn merge<const N: usize>(a: &[u32; N], b: &[u32; N]) -> [u32; N]
 }
 
 // After the numbers of `last` those of `first` can come too.
+#[inline(always)]
 fn link(a: &[u32; NUMBERS], last: u32, first: u32) -> [u32; NUMBERS]
     ensures { result ≡ link_of a.now last first }
 {
     let mut linked = *a;
     for i in 0..NUMBERS {
-        if bits::has(u64::from(last), i) {
-            linked[i] |= first;
-        }
+        linked[i] |= if has(last, i) { first } else { 0 };
     }
     linked
 }
 
 // The empty word.
+#[inline(always)]
 pub fn empty() -> Shape
     ensures { result ≡ shape_of epsilon }
 {
@@ -60,6 +72,7 @@ pub fn empty() -> Shape
 }
 
 // The event name with the number n.
+#[inline(always)]
 pub fn leaf(n: usize, event: usize) -> Shape
     requires { (n ≤ most_names) × (event < most_events) }
     ensures { result ≡ shape_of (name n event) }
@@ -77,6 +90,7 @@ pub fn leaf(n: usize, event: usize) -> Shape
 }
 
 // a or b.
+#[inline(always)]
 pub fn alternative(a: Shape, b: Shape) -> Shape
     ensures { result ≡ either_shape a b }
 {
@@ -90,6 +104,7 @@ pub fn alternative(a: Shape, b: Shape) -> Shape
 }
 
 // a and then b.
+#[inline(always)]
 pub fn sequence(a: Shape, b: Shape) -> Shape
     ensures { result ≡ then_shape a b }
 {
@@ -104,16 +119,20 @@ pub fn sequence(a: Shape, b: Shape) -> Shape
 }
 
 // Any number of a, one after another.
+#[inline(always)]
 pub fn star(a: Shape) -> Shape
     ensures { result ≡ star_shape a }
 {
+    let follow = link(&a.follow, a.last, a.first);
     Shape {
         null: true,
-        ..plus(a)
+        follow,
+        ..a
     }
 }
 
 // One or more of a.
+#[inline(always)]
 pub fn plus(a: Shape) -> Shape
     ensures { result ≡ plus_shape a }
 {

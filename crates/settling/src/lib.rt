@@ -1,6 +1,6 @@
-// One kept row of a pass over them (document 01, "One event", where the binding is empty or seen already): whether it includes
-// the binding, its report, and where it is written; and the rows after the last of the pass, moved down.
-// Interior, for `advance`.
+// One kept row of a pass over them (document 01, "One event"): whether it includes the binding, its report, and where it is
+// written; and the rows after the last of the pass, moved down.
+// Interior, for `keeping` and `advance`.
 
 #![tactic(auto)]
 

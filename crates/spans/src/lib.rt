@@ -1,5 +1,6 @@
 // Which kept rows may include a binding (document 01, "One event"): rows ascend, so those that begin with its first number stand
-// together; among them those that have its last number are looked for, and compared in between. Interior: for `inplace`.
+// together; among them those that have its last number are looked for, and compared in between.
+// Interior: for `inplace` and `settling`.
 
 #![tactic(auto)]
 

@@ -16,6 +16,7 @@ use refusals::{Refusal, TAKEN};
 use steps::Answered;
 
 // The kept rows of a fresh session: one, "if state 0 is hopeful". Refused 11, then 16 where there is no room for that row.
+#[inline(always)]
 fn first_rows(p: Property, kept: &[u32]) -> Result<usize, Refusal>
     ensures { MatchResult result (λ x. FirstRows (meaning p) kept.now x) (λ r. StartRefused (meaning p) kept.now r) }
 {

@@ -59,6 +59,7 @@ fn verdicts(shape: &sets::Shape, sets: &[u32]) -> Verdicts
 }
 
 // The table of the pattern that has a shape, over so many events; none where there are more than 64 states.
+#[inline(always)]
 pub fn table_of(shape: sets::Shape, events: usize, base: u32) -> Option<Table>
     requires { events ≤ most_events }
     ensures { Tabled shape events base result }

@@ -15,10 +15,11 @@ use Rattle.moves.specs.Steps.{is_new, step_of, state_in, outcome_by}
 use Rattle.moves.specs.Ready.{Steady}
 use Rattle.refusals.specs.declared.Refusal.{Refusal}
 use Rattle.refusals.specs.declared.Refusal.TheVariants.{NoRoomForSeen, NoRoomForKept, NoRoomForReports}
-use Rattle.refusals.specs.Named.{named, number_of}
+use Rattle.refusals.specs.Named.{named}
 use Rattle.slices.specs.TestsLaws.{so}
 use Rattle.foreseen.specs.Foreseen.{room_refusal, unless_refused, counted, foreseen_of}
 use Rattle.foreseen.specs.declared.Foreseen.{Foreseen}
+use Rattle.foreseen.specs.declared.Crowded.{Crowded}
 use Rattle.writing.specs.Writing.{written_by, Tellable, WrittenDown}
 use Rattle.advance.specs.Advancing.{Advances}
 use Rattle.advance.specs.AdvanceLaws.{advanced_down, advanced_foreseen}
@@ -31,15 +32,19 @@ rooms x y z h = refuse_if x noRoomForSeen (refuse_if y noRoomForKept (refuse_if 
 abbrev refusal : Bool → Bool → Bool → Result (Unit {0}) Refusal
 refusal x y z = cond x (Err NoRoomForSeen) (cond y (Err NoRoomForKept) (cond z (Err NoRoomForReports) (Ok tt)))
 
-rooms_refused : (x y z : Bool) (h : Happened) (s : Session) (reports : List ℕ) (o : Foreseen) (r : Refusal) → Err r ≡ unless_refused (refusal x y z) o
-    → Leaves (rooms x y z h) s reports (record { refusal = number (named r); seen = s.seen_count; kept = s.kept_count; reported = 0 }) s.seen s.kept reports
+abbrev refused_as : Result Foreseen Crowded → ℕ
+refused_as (Ok o) = 0
+refused_as (Err r) = number (named r.refusal)
+
+rooms_refused : (x y z : Bool) (h : Happened) (s : Session) (reports : List ℕ) (o : Foreseen) (r : Crowded) → Err r ≡ unless_refused (refusal x y z) o
+    → Leaves (rooms x y z h) s reports (record { refusal = number (named r.refusal); seen = s.seen_count; kept = s.kept_count; reported = 0 }) s.seen s.kept reports
 unfolding answered leaves
-rooms_refused true y z h s reports o r q = rw (ap number_of q) (record { says = refl; seen_left = refl; kept_left = refl; reports_left = refl })
-rooms_refused false true z h s reports o r q = rw (ap number_of q) (record { says = refl; seen_left = refl; kept_left = refl; reports_left = refl })
-rooms_refused false false true h s reports o r q = rw (ap number_of q) (record { says = refl; seen_left = refl; kept_left = refl; reports_left = refl })
+rooms_refused true y z h s reports o r q = rw (ap refused_as q) (record { says = refl; seen_left = refl; kept_left = refl; reports_left = refl })
+rooms_refused false true z h s reports o r q = rw (ap refused_as q) (record { says = refl; seen_left = refl; kept_left = refl; reports_left = refl })
+rooms_refused false false true h s reports o r q = rw (ap refused_as q) (record { says = refl; seen_left = refl; kept_left = refl; reports_left = refl })
 rooms_refused false false false h s reports o r q = absurd (so (ap is_ok q))
 
-abbrev given : Foreseen → Result Foreseen Refusal → Foreseen
+abbrev given : Foreseen → Result Foreseen Crowded → Foreseen
 given d (Ok o) = o
 given d (Err r) = d
 
@@ -64,8 +69,8 @@ module _ (next verdicts : List ℕ) (hopes asks e n m from : ℕ) (b seen kept r
   unfolding foreseen_of counted room_refusal
   is-foreseen = refl
 
-  pub step_refused : (r : Refusal) → Err r ≡ foreseen_of next hopes asks from n m seen kept reports e b
-      → Leaves (step_by next verdicts hopes asks from (session_of n m seen kept) reports e b) (session_of n m seen kept) reports (record { refusal = number (named r); seen = n; kept = m; reported = 0 }) seen kept reports
+  pub step_refused : (r : Crowded) → Err r ≡ foreseen_of next hopes asks from n m seen kept reports e b
+      → Leaves (step_by next verdicts hopes asks from (session_of n m seen kept) reports e b) (session_of n m seen kept) reports (record { refusal = number (named r.refusal); seen = n; kept = m; reported = 0 }) seen kept reports
   unfolding step_by within_rooms_by seen_of kept_of
   step_refused r q =
       rooms_refused (ltb (seen_room seen) (length c₀.seen)) (ltb (kept_room kept) (length c₀.kept)) (ltb (report_room (drop from reports)) (length c₀.rows))

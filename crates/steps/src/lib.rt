@@ -77,6 +77,6 @@ pub fn step(
                 reported: o.reported,
             }
         }
-        Err(refusal) => counts_alone(refusal.number(), n, m),
+        Err(crowded) => counts_alone(crowded.refusal.number(), n, m),
     }
 }

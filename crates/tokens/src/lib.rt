@@ -34,6 +34,7 @@ pub enum Kind {
 
 impl Kind {
     // The mark of a class, if it has one.
+    #[inline(always)]
     fn of_mark(class: Class) -> Kind
         ensures { result ≡ mark_kind (number class) }
     {
@@ -103,6 +104,7 @@ fn ask_at(s: &[u8], at: usize) -> Token
 }
 
 // The token at a place; past the text's end there is none.
+#[inline(always)]
 pub fn token_at(s: &[u8], at: usize) -> Token
     ensures { result ≡ token_here s.now at }
 {
@@ -127,6 +129,7 @@ pub fn token_at(s: &[u8], at: usize) -> Token
 }
 
 // The token at the place of one, and the place of the next: all that a reader of tokens asks of the text.
+#[inline(always)]
 pub fn look(s: &[u8], at: usize) -> Step
     requires { Begins s.now at }
     ensures { Looks s.now at result }

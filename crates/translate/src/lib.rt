@@ -32,6 +32,7 @@ pub struct Translated {
     pub property: Property,
 }
 
+#[inline(always)]
 fn refused_table(refusal: u8, at: usize) -> Translated
     ensures { result ≡ refused_table refusal at }
 {
@@ -51,6 +52,7 @@ fn refused_table(refusal: u8, at: usize) -> Translated
 }
 
 // The property table from declarations and a pattern that were read, or 10.
+#[inline(always)]
 fn table_of(d: Reading, t: Parsed) -> Result<Property, Stopped>
     requires { d.events ≤ most_events }
     ensures { Tables d t result }
@@ -82,6 +84,7 @@ fn table_of(d: Reading, t: Parsed) -> Result<Property, Stopped>
 
 // The property table of a pattern over the declared events, or what stops the translation.
 // Stays: the two texts have one lifetime by name, since a source holds both at one.
+#[inline(always)]
 fn read<'a>(declarations: &'a [u8], pattern: &'a [u8]) -> Result<Property, Stopped>
     ensures { AnsweredAs held (translate declarations.now pattern.now) result }
 {

@@ -16,7 +16,7 @@ const LINE_END: &[u8] = b"\r\n";
 
 // What comes after the bytes that are held.
 #[derive(Clone, Copy, PartialEq, Eq)]
-enum Next {
+pub enum Next {
     // More of the log.
     More,
 
@@ -35,7 +35,7 @@ enum Next {
 pub struct Window {
     pub at: usize,
     pub held: usize,
-    next: Next,
+    pub next: Next,
     ghost ordered: { at ≤ held },
 }
 

@@ -1,16 +1,17 @@
--- `clauses::zero_between` meets its contract: each number of the part is 0.
+-- `clauses::zero_between` meets its contract: the numbers passed are 0.
 -- Assumes nothing.
-use Rattle.std.specs.Prelude.{eqb, take}
-use Rattle.std.proofs.Common.{rules, ◌∙◌}
-use Rattle.std.proofs.lemmas.Iterator.{YieldsList-from_slice}
-use Rattle.std.proofs.lemmas.Iterator.Adapters.{YieldsList-from_skip}
-use Rattle.std.proofs.lemmas.Iterator.Search.{all_from_yields_List}
-use borrow.Author.Tests.{tests}
-use Rattle.clauses.specs.LibraryLaws.{all_zero_between}
+use Rattle.clauses.specs.RowsLaws.{zeros_begins, zeros-turn, zeros_stops, zeros_ends}
+use borrow.Author.Rules.{rules}
 use Rattle.clauses.proofs.zero_between.Goals as goal
 
+pub loop-p-init : goal.loop-p-init
+loop-p-init c = zeros_begins _ _ _
+
+pub returns-then-t-p-ne0 : goal.returns-then-t-p-ne0
+returns-then-t-p-ne0 c = search (rules, zeros_stops)
+
+pub loop-p-preserved : goal.loop-p-preserved
+loop-p-preserved c = search (rules, zeros-turn)
+
 pub returns : goal.returns
-returns c =
-    all_from_yields_List (λ x. eqb x 0) c.all.new.self _ _ c.all.ensures.ran
-    (YieldsList-from_skip c.args.from (YieldsList-from_slice (take c.args.to c.args.t.now) cc) (cc)) (λ x b q k. search (rules, tests))
-    ∙ all_zero_between c.args.from c.args.to c.args.t.now
+returns c = search (rules, zeros_ends)

@@ -1,11 +1,17 @@
--- `nexts::moves` meets its contract: each event's set is made of the numbers that name it.
+-- `nexts::moves` meets its contract: the events gone through have their sets.
 -- Assumes nothing.
-use Rattle.std.specs.Prelude.{ℕ}
-use Rattle.std.specs.Int.Bits.{bit_or, bit_and}
-use Rattle.nexts.specs.MovesLaws.{moves_made}
+use Rattle.sets.specs.ShapesLaws.{filled_none, filled_more, filled_all}
+use mathlib.Core.Path.{refl}
+use Rattle.nexts.specs.Nexts.{moves_of}
 use borrow.Author.Rules.{rules}
 use Rattle.nexts.proofs.moves.Goals as goal
 
+pub loop-e-init : goal.loop-e-init
+loop-e-init c = (c.nexts-reach.ensures, filled_none refl)
+
+pub loop-e-preserved : goal.loop-e-preserved
+loop-e-preserved c = (c.loop-e.invariant.0, filled_more c.loop-e.invariant.1 (search rules) (rw c.loop-e.invariant.0))
+
 pub returns : goal.returns
-returns c = moves_made _ (λ (x : ℕ). bit_or (bit_and c.nexts-reach.result x) c.args.base) _ (λ x y q k. search rules)
-    _ _ _ _ _ c.map.ensures.items (λ e. rw c.nexts-reach.ensures)
+unfolding moves_of
+returns c = filled_all c.loop-e.invariant.1 (search rules)

@@ -16,11 +16,11 @@ loop-i-init c = filling_none _ _ _ (search rules)
 pub loop-i-preserved : goal.loop-i-preserved
 loop-i-preserved c = elim c.if-has.branch [
   | then-has w ↦
-      let e : holds c.args.last c.loop-i.i ≡ true = rw c.from.ensures at (sym c.has.ensures ∙ w.if-has.true) in
+      let e : holds c.args.last c.loop-i.i ≡ true = sym c.has.ensures ∙ w.if-has.true in
       rw w.linked-is (filling_more _ _ _ _ _ _ c.loop-i.invariant (omega arith) (λ q. rw (e, q)))
   | else-has w ↦
-      let e : holds c.args.last c.loop-i.i ≡ false = rw c.from.ensures at (sym c.has.ensures ∙ w.if-has.false) in
-      rw w.linked-is (filling_same _ _ _ _ _ c.loop-i.invariant (omega arith) (rw e (sym (or_zero_r _))))
+      let e : holds c.args.last c.loop-i.i ≡ false = sym c.has.ensures ∙ w.if-has.false in
+      rw w.linked-is (filling_more _ _ _ _ _ _ c.loop-i.invariant (omega arith) (λ q. rw (e, q)))
 ]
 
 pub returns : goal.returns
