@@ -1,6 +1,6 @@
 -- Laws of the reader: one for each way out of `place_at`, `part` and `hand_out`.
 -- Assumes nothing.
-use Rattle.std.specs.Prelude.{ℕ, ◌+◌, ◌-◌, ◌≤◌, ◌<◌, ◌≡◌, min, refl, true, false, not, ◌⊎◌, Option, Some, None, List, [], ◌∷◌, length, take, drop, leb}
+use Rattle.std.specs.Prelude.{ℕ, ◌+◌, ◌-◌, ◌≤◌, ◌<◌, ◌≡◌, min, refl, Bool, true, false, not, ◌⊎◌, Option, Some, None, List, [], ◌∷◌, length, take, drop, leb}
 use Rattle.std.proofs.Common.{sym, ap, ◌∙◌, inl, inr, length-drop, drop-drop, take_all, length-take-le, arith, le-leb, leb-true, leb-false, ne_eqb, zero-add}
 use Rattle.std.specs.Borrow.{Bor}
 use Rattle.std.proofs.Math.Seq.{take-nil}
@@ -11,9 +11,9 @@ use Rattle.basics.specs.Tests.{decided}
 use Rattle.basics.specs.Left.{drop-end}
 use Rattle.rows.specs.RowsLaws.{first_ends, first_more, next_more, next_none}
 use Rattle.rows.specs.TextLaws.{first_part}
-use Rattle.fields.specs.Places.{PartAt, place_from}
+use Rattle.fields.specs.Places.{PartAt, Lies, place_from}
 use Rattle.reader.specs.declared.Place.{Place}
-use Rattle.reader.specs.Handing.{is_there, bytes_of, position_after, Hands, place_at}
+use Rattle.reader.specs.Handing.{is_there, bytes_of, position_after, HandsOut, Hands, place_at}
 
 -- handing out, by whether the position lies in the log
 pub hands_none : (log : List ℕ) (at : ℕ) → length log ≤ at → hands_out log at ≡ no_row
@@ -102,6 +102,37 @@ bytes-part log at = elim (decided (leb (length log) at)) [
   | inr t ↦
       let k : at + length (first_row (drop at log)) - at ≡ length (first_row (drop at log)) = omega arith in
       rw (hands_row log at (leb-false (length log) at t), k) (first_part (drop at log))
+]
+
+pub hands_out_lem : (log : List ℕ) (at : ℕ) (p : Place) (bytes : List ℕ) → p ≡ place_at log at → bytes ≡ take (p.end - at) (drop at log)
+    → HandsOut log at p.there bytes p.next
+unfolding place_at
+hands_out_lem log at p bytes e b =
+    record {
+      there_is = ap (λ (x : Place). x.there) e;
+      bytes_are = b ∙ ap (λ (x : Place). take (x.end - at) (drop at log)) e ∙ bytes-part log at;
+      after_is = ap (λ (x : Place). x.next) e;
+    }
+
+-- where the bytes of a part are known, so is its place
+pub held_lies : (lent x : Bor (List ℕ)) (at : ℕ) (bytes : List ℕ) → PartAt lent (place_from at bytes) bytes x → Lies lent (place_from at x.now) x
+held_lies lent x at bytes p = rw p.holds p.lies
+
+-- the same as an option: a row, or none
+pub hands_there : (log x : Bor (List ℕ)) (at after : ℕ) (there : Bool) → HandsOut log.now at there x.now after → Lies log (place_from at x.now) x
+    → there ≡ true → Hands log at (Some x) after
+hands_there log x at after there h l e = (record { there_is = sym e ∙ h.there_is; bytes_are = h.bytes_are; after_is = h.after_is }, l)
+
+pub hands_nothing : (log x : Bor (List ℕ)) (at after : ℕ) (there : Bool) → HandsOut log.now at there x.now after → there ≡ false → Hands log at None after
+unfolding is_there bytes_of
+hands_nothing log x at after there h e = elim (decided (leb (length log.now) at)) [
+  | inl t ↦
+      let none = hands_none log.now at (leb-true (length log.now) at t) in
+      record { there_is = sym e ∙ h.there_is; bytes_are = rw none; after_is = h.after_is }
+  | inr t ↦
+      let there = h.there_is ∙ ap is_there (hands_row log.now at (leb-false (length log.now) at t)) in
+      let gone = sym e ∙ there in
+      cc
 ]
 
 pub hands_some : (log x : Bor (List ℕ)) (at : ℕ) (p : Place) → p ≡ place_at log.now at → not p.there ≡ false

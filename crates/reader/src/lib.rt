@@ -8,8 +8,8 @@
 #![tactic(auto)]
 
 ghost use Rattle.std.specs.Prelude.{◌≡◌, ◌-◌, take, drop};
-ghost use Rattle.fields.specs.Places.{PartAt, place_from};
-ghost use Rattle.reader.specs.Handing.{place_at, Hands, rows_left};
+ghost use Rattle.fields.specs.Places.{PartAt, Lies, place_from};
+ghost use Rattle.reader.specs.Handing.{place_at, HandsOut, rows_left};
 ghost use Rattle.std.specs.Iterator.{YieldsFirstRef, item_count};
 
 // The log, and where its next row begins. Past the log's end there is none.
@@ -17,6 +17,15 @@ ghost use Rattle.std.specs.Iterator.{YieldsFirstRef, item_count};
 pub struct Reader<'a> {
     pub log: &'a [u8],
     pub at: usize,
+}
+
+// A row that is handed out, as that part of the log, its line end left out; where there is none, the empty part at the
+// log's start.
+// Stays: as a flag beside the part, since where there is no row the part is promised too; `next` answers an `Option`.
+#[derive(Drop)]
+pub struct Row<'a> {
+    pub bytes: &'a [u8],
+    pub there: bool,
 }
 
 // Whether a row begins at a place of a log, where it ends, and where the one after it begins.
@@ -66,18 +75,17 @@ pub fn reader_at(log: &[u8], at: usize) -> Reader<'_>
     Reader { log, at }
 }
 
-// Hands out the next row, as that part of the log, its line end left out, and moves on to the one after it; or says that there is
-// none and stays.
-pub fn hand_out<'a>(r: &mut Reader<'a>) -> Option<&'a [u8]>
-    ensures { (r.new.log ≡ r.old.log) × Hands r.old.log r.old.at result r.new.at }
+// Hands out the next row and moves on to the one after it; or says that there is none and stays.
+pub fn hand_out<'a>(r: &mut Reader<'a>) -> Row<'a>
+    ensures { (r.new.log ≡ r.old.log) × HandsOut r.old.log.now r.old.at result.there result.bytes.now r.new.at × Lies r.old.log (place_from r.old.at result.bytes.now) result.bytes }
 {
     let place = place_at(r.log, r.at);
-    if !place.there {
-        return None;
-    }
-    let row = part(r.log, r.at, place.end);
+    let bytes = part(r.log, r.at, place.end);
     r.at = place.next;
-    Some(row)
+    Row {
+        bytes,
+        there: place.there,
+    }
 }
 
 // As an iterator, it yields the log's rows from its place on.
@@ -89,6 +97,7 @@ impl<'a> Iterator for Reader<'a> {
     ghost remaining = { item_count rows_left };
 
     fn next(&mut self) -> Option<&'a [u8]> {
-        hand_out(self)
+        let row = hand_out(self);
+        if row.there { Some(row.bytes) } else { None }
     }
 }

@@ -6,7 +6,7 @@
 -- that came to ask for something, or to leave something open, would be refused here. What is lent to be read only stays by its
 -- type.
 -- Assumes nothing.
-use Rattle.std.specs.Prelude.{ℕ, ◌+◌, ◌≡◌, refl, Bool, Option, List}
+use Rattle.std.specs.Prelude.{ℕ, ◌+◌, ◌≡◌, refl, Bool, List}
 use Rattle.std.proofs.Common.{sym, ap, ◌∙◌}
 use base.Logic.{emp}
 use contract.Monad.{fact}
@@ -39,8 +39,10 @@ use Rattle.fields.proofs.field.Reads as field
 use Rattle.fields.proofs.field_place.Reads as field-place
 use Rattle.reader.specs.declared.Reader.{Reader}
 use Rattle.reader.specs.declared.Place.{Place}
-use Rattle.reader.specs.Handing.{Hands}
-use Rattle.reader.specs.HandingLaws.{hands_one}
+use Rattle.fields.specs.Places.{Lies, place_from}
+use Rattle.reader.specs.declared.Row.{Row}
+use Rattle.reader.specs.Handing.{HandsOut}
+use Rattle.reader.specs.WholeLog.{hands_single}
 use Rattle.reader.specs.contracts.reader_at as reader_at
 use Rattle.reader.specs.contracts.hand_out as hand-out
 use Rattle.reader.proofs.place_at.Reads as place_at
@@ -258,13 +260,16 @@ module _ (log : Lent) (at : ℕ) where
   pub reader_at_single : (r q : Reader) → ReaderAtPromise r → ReaderAtPromise q → r ≡ q
   reader_at_single r q x y = λ i. record { log = (x.0 ∙ sym y.0) i; at = (x.1 ∙ sym y.1) i }
 
--- reader::hand_out(&mut reader): the row, if there is one, its bytes and where they lie, and the reader afterwards, also where there
+-- reader::hand_out(&mut reader): whether there is a row, its bytes, where they lie, and the reader afterwards, also where there
 -- is none
 module _ (reader : MutBor Reader) where
-  abbrev pub HandOutPromise : Option Lent → Reader → Type 0
-  HandOutPromise h reader' = (reader'.log ≡ reader.now.log) × Hands reader.now.log reader.now.at h reader'.at
+  abbrev pub HandOutPromise : Row → Reader → Type 0
+  HandOutPromise h reader' =
+      (reader'.log ≡ reader.now.log)
+      × HandsOut reader.now.log.now reader.now.at h.there h.bytes.now reader'.at
+      × Lies reader.now.log (place_from reader.now.at h.bytes.now) h.bytes
 
-  pub hand_out_promise : (w : World) (κs : Lfts 2) (h : Option Lent) (reader' : Reader)
+  pub hand_out_promise : (w : World) (κs : Lfts 2) (h : Row) (reader' : Reader)
       → (hand-out.clauses w.𝓛 w.𝓜.mem w.𝓡.run κs (reader, tt)).ensures tt h (last reader reader', tt)
       ≡ fact w.𝓤 (HandOutPromise h reader')
   hand_out_promise w κs h reader' = refl
@@ -273,11 +278,16 @@ module _ (reader : MutBor Reader) where
       → (hand-out.clauses w.𝓛 w.𝓜.mem w.𝓡.run κs (reader, tt)).requires tt ≡ emp w.𝓤
   hand_out_takes w κs = refl
 
-  pub hand_out_single : (h k : Option Lent) (reader' reader'' : Reader) → HandOutPromise h reader' → HandOutPromise k reader''
+  pub hand_out_single : (h k : Row) (reader' reader'' : Reader) → HandOutPromise h reader' → HandOutPromise k reader''
       → (h ≡ k) × (reader' ≡ reader'')
   hand_out_single h k reader' reader'' x y =
-      let z = hands_one reader.now.log reader.now.at h k reader'.at reader''.at x.1 y.1 in
-      (z.0, λ i. record { log = (x.0 ∙ sym y.0) i; at = z.1 i })
+      let z = hands_single x.1 y.1 in
+      let log = reader.now.log in
+      let b : h.bytes.now ≡ k.bytes.now = z.1.0 in
+      let l : h.bytes.ref_ptr ≡ k.bytes.ref_ptr = x.2 ∙ ap (λ (b : List ℕ). (log.ref_ptr.0, place_from reader.now.at b + log.ref_ptr.1)) b ∙ sym y.2 in (
+        λ i. record { bytes = record { ref_ptr = l i; now = b i }; there = z.0 i },
+        λ i. record { log = (x.0 ∙ sym y.0) i; at = z.1.1 i },
+      )
 
 -- reader::place_at(log, at) and reader::part(log, start, end): the same for callers that hold no reader
 module _ (κs : Lfts 1) (log : Lent) (at : ℕ) where
